@@ -1,0 +1,5 @@
+pub mod Id
+pub mod Ids
+pub mod Places
+pub mod Misuses
+pub mod OptionRanges
