@@ -1,0 +1,15 @@
+pub mod Room
+pub mod Maps
+pub mod State
+pub mod Quanta
+pub mod Reach
+pub mod Escape
+pub mod Misuses
+pub mod Stats
+pub mod Collection
+pub mod Effect
+pub mod Step
+pub mod History
+pub mod Part
+pub mod WeakShows
+pub mod Bare

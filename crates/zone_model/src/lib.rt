@@ -1,0 +1,23 @@
+//! What a zone is, said before any code: its calls, its replies, and the states through which a history leads.
+//!
+//! A history is a list of entries, each a call of one thread with its reply. The definitions in `specs/` say which
+//! histories are legal, one step at a time, over plain states of maps, sets and paths:
+//! - `State` says what a zone holds at one moment, and `Reach` who refers to whom and what is reached from where;
+//! - `Escape` says which blocks become known to all threads at a call, `Misuses` what is wrong with one, and `Effect`
+//!   what it does and replies;
+//! - `Collection` says what a collection may condemn, what its finalisers do, and what it reclaims and keeps;
+//! - `Step` puts these together into one relation, and `History` says which lists of entries are legal;
+//! - `Part` says what one thread knows by itself, and `WeakShows` what a weak location shows, told from the entries.
+//!
+//! The types here are those that the definitions and the code share. `laws` has theorems over the definitions.
+#![tactic(auto)]
+
+mod act;
+mod call;
+mod entry;
+mod lists;
+
+pub use act::Act;
+pub use call::{Call, Loc};
+pub use entry::{Entry, Reply, Stats};
+pub use lists::{ActionList, IdList};
