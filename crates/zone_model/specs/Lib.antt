@@ -13,3 +13,4 @@ pub mod History
 pub mod Part
 pub mod WeakShows
 pub mod Bare
+pub mod Worked

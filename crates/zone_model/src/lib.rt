@@ -15,9 +15,13 @@
 mod act;
 mod call;
 mod entry;
+mod laws;
 mod lists;
 
 pub use act::Act;
 pub use call::{Call, Loc};
 pub use entry::{Entry, Reply, Stats};
+pub use laws::{
+    first_history_is_legal, first_history_must_reclaim, histories_end_once, steps_are_determined,
+};
 pub use lists::{ActionList, IdList};

@@ -1,0 +1,4 @@
+pub mod Ones
+pub mod Steps
+pub mod Determined
+pub mod FirstHistory
