@@ -8,10 +8,10 @@ use Rattle.az_base.specs.Ids.{id_cmp, ids_total, exact_ids}
 use Rattle.zone_model.specs.declared.entry.Entry.{Entry}
 use Rattle.zone_model.specs.declared.entry.Reply.TheVariants as reply
 use Rattle.zone_model.specs.Maps.{get-map_values}
-use Rattle.zone_model.specs.State.{State}
+use Rattle.zone_model.specs.State.{State, moment}
 use Rattle.zone_model.specs.Escape.{Need, Tells, with_escaped}
 use Rattle.zone_model.specs.Misuses.{misuse_of}
-use Rattle.zone_model.specs.Step.{Step, Happens}
+use Rattle.zone_model.specs.Step.{Step, Happens, seen_now, with_seen}
 
 mapped_to_itself : {X : Type 0} (o : Option X) → option_map (λ x. x) o ≡ o
 mapped_to_itself None = refl
@@ -57,3 +57,7 @@ plain_happens z e after step none right =
     let does = subst (λ (n : BlockId → Bool). MatchOption (misuse_of z e.thread e.call n) (Happens (with_escaped z n) e.thread e.call e.reply after) (λ m. (e.reply ≡ reply.Misuse m) × (after ≡ z))) empty_need step.does in
     let happens = subst (λ (m : Option Misuse). MatchOption m (Happens (with_escaped z (λ _. false)) e.thread e.call e.reply after) (λ m. (e.reply ≡ reply.Misuse m) × (after ≡ z))) right does in
     subst (λ y. Happens y e.thread e.call e.reply after) (none_escaped z) happens
+
+-- where no cycle is open, none sees the state
+pub unseen : (z : State) → z.cycle ≡ None → seen_now z ≡ z
+unseen z none = ap (λ c. record z { cycle = c }) (ap (option_map (with_seen (moment z))) none ∙ sym none)
