@@ -1,0 +1,6 @@
+pub mod Causes
+pub mod Bytes
+pub mod CallCounts
+pub mod InMemory
+pub mod Adapters
+pub mod Growing
