@@ -1,8 +1,7 @@
 -- A text of letters has as many classes as letters
-use Rattle.std.proofs.Common.{◌≡◌, ℕ, ◌+◌, ◌≤◌, Bool, true, false, cond, List, [], ◌∷◌, length, Option, Some, None, not, refl, ap, arith, is_none}
+use Rattle.std.proofs.Common.{◌≡◌, ℕ, ◌+◌, ◌≤◌, Bool, true, false, cond, List, [], ◌∷◌, length, Some, None, not, refl, arith, is_none}
 use Rattle.std.specs.List.{prefix_len, cons_option}
 use Rattle.std.proofs.lemmas.Bool.{ltb-false}
-use Rattle.az_base.specs.declared.word.Class.{Class}
 use Rattle.block_layouts.specs.Letters.{class_of, is_other, classes_of, first_other}
 
 all_letters : (text : List ℕ) → length text ≤ prefix_len (λ x. not (is_other x)) text → length (classes_of text) ≡ length text

@@ -12,3 +12,6 @@ mod letters;
 
 pub use class_list::ClassList;
 pub use layout::{Layout, LayoutErr, Shape};
+
+#[cfg(test)]
+mod tests;

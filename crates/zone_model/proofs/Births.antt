@@ -1,5 +1,5 @@
 -- What a new block adds to the sums over the blocks
-use Rattle.std.proofs.Common.{◌≡◌, ℕ, ◌+◌, ◌≤◌, ◌==◌, true, false, cond, ◌&&◌, List, Some, None, refl, ap, ◌∙◌, arith, eq-eqb, is_some, is_none}
+use Rattle.std.proofs.Common.{◌≡◌, ℕ, ◌+◌, ◌≤◌, true, false, cond, ◌&&◌, List, Some, None, refl, ap, ◌∙◌, arith, eq-eqb, is_some, is_none}
 use Rattle.std.specs.declared.cmp.Ordering.TheVariants.{Less, Equal, Greater}
 use Rattle.std.specs.Ordering.{is_eq}
 use Rattle.std.specs.FinMap.{get}

@@ -7,8 +7,7 @@ use Rattle.zone_model.specs.declared.call.Call.TheVariants as call
 use Rattle.zone_model.specs.declared.entry.Reply.{Reply}
 use Rattle.zone_model.specs.declared.entry.Reply.TheVariants as reply
 use Rattle.zone_model.specs.declared.entry.Entry.{Entry}
-use Rattle.zone_model.specs.State.{State, Cycle, with_cycle}
-use Rattle.zone_model.specs.Reach.{AnchoredFor}
+use Rattle.zone_model.specs.State.{State}
 use Rattle.zone_model.specs.Escape.{Need, Tells, with_escaped}
 use Rattle.zone_model.specs.Misuses.{misuse_of}
 use Rattle.zone_model.specs.Collection.{with_condemned}

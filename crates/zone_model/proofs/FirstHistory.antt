@@ -1,5 +1,5 @@
 -- The history of the first script, and its twin that reclaims nothing
-use Rattle.std.proofs.Common.{◌≡◌, ◌+◌, ◌==◌, nat_lt, Bool, true, false, cond, ◌&&◌, ◌||◌, List, [], ◌∷◌, Some, None, refl, sym, ap, ◌∙◌, subst, IsTrue, is_none}
+use Rattle.std.proofs.Common.{◌≡◌, ◌+◌, ◌==◌, nat_lt, Bool, true, false, cond, ◌&&◌, ◌||◌, [], ◌∷◌, Some, None, refl, sym, ap, ◌∙◌, subst, IsTrue, is_none}
 use Rattle.std.specs.Option.{option_map_or}
 use Rattle.std.specs.List.Sorted.{IsStrictlySortedBy}
 use Rattle.std.specs.declared.cmp.Ordering.{Ordering}
@@ -14,7 +14,6 @@ use Rattle.block_layouts.specs.Layouts.{quanta, len_of}
 use Rattle.az_base.specs.OptionRanges.{usual_options}
 use Rattle.zone_model.specs.declared.call.Call.TheVariants as call
 use Rattle.zone_model.specs.declared.entry.Reply.TheVariants as reply
-use Rattle.zone_model.specs.declared.entry.Entry.{Entry}
 use Rattle.zone_model.specs.Maps.{total-empty}
 use Rattle.zone_model.specs.State.{State, Block, opening, is_own, with_block, with_register, with_next_serial, without_blocks}
 use Rattle.zone_model.specs.Worked.{first_thread, ids, first_block, new_entry, first_history}

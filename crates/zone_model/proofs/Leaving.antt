@@ -3,7 +3,7 @@ use Rattle.std.proofs.Common.{◌≡◌, ℕ, ◌==◌, Bool, true, false, cond,
 use Rattle.std.specs.Option.{option_map_or}
 use Rattle.std.specs.FinMap.{get}
 use Rattle.az_base.specs.declared.block_id.BlockId.{BlockId}
-use Rattle.az_base.specs.Ids.{among, id_cmp, ids_total, exact_ids}
+use Rattle.az_base.specs.Ids.{among, ids_total, exact_ids}
 use Rattle.block_layouts.specs.Layouts.{quanta, len_of}
 use Rattle.zone_model.specs.State.{State, Block, is_own, is_unescaped, without_blocks}
 use Rattle.zone_model.specs.Stats.{stats_of}

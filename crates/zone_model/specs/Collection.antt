@@ -1,4 +1,8 @@
 -- Collections: the steps of a cycle, local collections, and the end of a thread
+-- A cycle is of one thread, and the others go on beside it. Begin notes which blocks have escaped. Condemn takes a set of
+-- them to which nothing outside refers, and that has at least what was never anchored since Begin. Finalise runs one
+-- finaliser, which may put a condemned block into a root, where any thread may find it. Reclaim takes the condemned
+-- blocks that nothing refers to by now, and keeps the others.
 use Rattle.std.specs.Prelude.{◌≡◌, ◌≢◌, ◌⊎◌, ℕ, ◌+◌, ◌&&◌, ◌||◌, ◌==◌, Bool, true, false, not, List, [], Option, Some, None, if◌then◌else◌, fold, find, Any, IsTrue, IsFalse}
 use Rattle.std.specs.List.Sorted.{IsStrictlySortedBy}
 use Rattle.std.specs.Option.{option_map_or}

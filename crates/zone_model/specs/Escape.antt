@@ -1,4 +1,6 @@
 -- What escapes at a call
+-- A block is first known to its thread alone. Where a reference to it becomes visible to others it escapes, and with it
+-- all that it leads to: so no escaped block refers to one that has not escaped.
 use Rattle.std.specs.Prelude.{ℕ, Bool, Option, Some, None, if◌then◌else◌, IsTrue, ◌↔◌, ◌⊎◌}
 use Rattle.az_base.specs.declared.block_id.BlockId.{BlockId}
 use Rattle.az_base.specs.Ids.{id_cmp}

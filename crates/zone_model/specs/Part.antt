@@ -1,4 +1,5 @@
 -- What a thread knows alone: its part of a zone, and how its calls change it
+-- A call that is local depends on the part alone, so that a thread may make it without asking the others.
 use Rattle.std.specs.Prelude.{◌≡◌, ℕ, ◌+◌, ◌&&◌, ◌||◌, ◌==◌, nat_lt, not, Bool, true, false, List, [], ◌∷◌, Option, Some, None, if◌then◌else◌, slice_set, ◌⊎◌, IsTrue}
 use Rattle.std.specs.Option.{option_map_or}
 use Rattle.std.specs.FinMap.{FinMap, empty, insert, contains_key, retain_keys}

@@ -1,9 +1,7 @@
 -- What a zone holds at one moment
 use Rattle.std.specs.Prelude.{is_some, is_none, zero, suc, ℕ, ◌+◌, ◌&&◌, ◌==◌, Bool, true, false, not, List, [], ◌∷◌, Option, Some, None, if◌then◌else◌, slice_set, slice_get, unwrap_or, option_and_then}
-use Rattle.std.specs.List.{list_any}
 use Rattle.std.specs.Option.{option_map_or}
 use Rattle.std.specs.declared.cmp.Ordering.{Ordering}
-use Rattle.std.specs.Ordering.{is_eq}
 use Rattle.std.specs.FinMap.{FinMap, empty, get, insert, remove, retain_keys}
 use Rattle.az_base.specs.declared.action.Action.{Action}
 use Rattle.az_base.specs.declared.block_id.BlockId.{BlockId}
@@ -17,25 +15,32 @@ use Rattle.block_layouts.specs.declared.layout.Layout.{Layout}
 use Rattle.az_base.specs.Ids.{id_cmp, among}
 use Rattle.az_base.specs.Places.{pair_cmp, loc_cmp}
 
--- a block: its layout, its words, the actions of its finaliser and whether they were applied; `since` is None while it is unescaped, and else how many Reclaims there had been when it escaped (what a Weak word shows stands with the weak locations)
+-- a block (what a Weak word of it shows stands with the weak locations)
 pub record Block : Type 0 where
   pub layout : Layout
   pub words : List Word
+  -- what its finaliser does, and whether that was done
   pub actions : List Action
   pub finalised : Bool
+  -- None while its thread alone knows it, and else how many Reclaims there had been when it escaped
   pub since : Option ℕ
 
--- a zone, with what is open on it: registers by thread and number, how many serials each thread made and whether it has ended, roots, positive counts, the weak locations that show a block, associations by object and key, and the number of Reclaims so far
+-- a zone, with what is open on it
 pub record Zone (C : Type 0) : Type 0 where
   pub options : Options
   pub blocks : FinMap id_cmp Block
+  -- of each thread: what each register holds, how many blocks it made, and whether it has ended
   pub registers : ℕ → ℕ → Option BlockId
   pub serials : ℕ → ℕ
   pub ended : ℕ → Bool
   pub roots : ℕ → Option BlockId
+  -- the positive external retain counts
   pub counts : FinMap id_cmp ℕ
+  -- the weak locations that show a block
   pub weak : FinMap loc_cmp BlockId
+  -- the associations, by object and key
   pub assocs : FinMap pair_cmp BlockId
+  -- how many Reclaims there were
   pub reclaims : ℕ
   pub cycle : C
 
@@ -43,12 +48,15 @@ pub record Zone (C : Type 0) : Type 0 where
 abbrev pub Moment : Type 0
 Moment = Zone (Unit {0})
 
--- an open collection cycle: whose it is and of which mode, the blocks that were escaped at Begin, what the zone was in each state since, and the condemned blocks in ascending order, once there are any
+-- an open collection cycle
 pub record Cycle : Type 0 where
   pub owner : ℕ
   pub mode : Mode
+  -- the blocks that were escaped when it began
   pub start : BlockId → Bool
+  -- what the zone was in each state since, until it condemned
   pub seen : List Moment
+  -- the condemned blocks, ascending, once there are any
   pub condemned : Option (List BlockId)
 
 -- a zone and its open cycle

@@ -1,5 +1,6 @@
 -- One entry, from a state to the next
-use Rattle.std.specs.Prelude.{◌≡◌, ℕ, Bool, false, ◌&&◌, ◌||◌, Option, Some, None, MatchOption, option_map, is_some, if◌then◌else◌, ◌∷◌}
+-- The entry carries its reply, so that a state and an entry have one next state.
+use Rattle.std.specs.Prelude.{◌≡◌, ℕ, Bool, false, MatchOption, option_map, is_some, if◌then◌else◌, ◌∷◌}
 use Rattle.az_base.specs.declared.block_id.BlockId.{BlockId}
 use Rattle.zone_model.specs.declared.call.Call.{Call}
 use Rattle.zone_model.specs.declared.call.Call.TheVariants as call

@@ -1,5 +1,5 @@
 -- A worked case: the history of the first script
-use Rattle.std.specs.Prelude.{ℕ, List, [], ◌∷◌, Some}
+use Rattle.std.specs.Prelude.{List, [], ◌∷◌, Some}
 use Rattle.az_base.specs.declared.block_id.BlockId.{BlockId}
 use Rattle.az_base.specs.Ids.{id_of}
 use Rattle.block_layouts.specs.declared.layout.Layout.{Layout}

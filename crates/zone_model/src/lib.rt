@@ -25,3 +25,6 @@ pub use laws::{
     first_history_is_legal, first_history_must_reclaim, histories_end_once, steps_are_determined,
 };
 pub use lists::{ActionList, IdList};
+
+#[cfg(test)]
+mod tests;

@@ -1,0 +1,73 @@
+#!/usr/bin/env python3
+"""Makes large inputs for the built program and times it on them.
+
+bench/bench.py [NAME..] runs the named cases, or all. It wants the program at crates/autozone/out/autozone, which
+./autozone builds, and prints a row for each case: the input's bytes and lines, the least time of five runs, and the
+most memory that a run took."""
+import os
+import subprocess
+import sys
+import tempfile
+import time
+
+TOP = os.path.dirname(os.path.dirname(os.path.abspath(__file__)))
+PROGRAM = os.path.join(TOP, "crates", "autozone", "out", "autozone")
+MOST_LINES = 65_536
+MOST_BYTES = 4_194_304
+
+
+def births():
+    """As many new blocks as a script has lines."""
+    return "1 new r0 scanned 2\n" * MOST_LINES
+
+
+def long_lines():
+    """The largest script: calls with blanks up to the limits of bytes and lines."""
+    line = "1 new r0 scanned 2" + " " * (MOST_BYTES // MOST_LINES - 19) + "\n"
+    return line * MOST_LINES
+
+
+def comments():
+    """Comments as long as a line may be, up to the limit of bytes."""
+    line = "#" + "x" * 8191 + "\n"
+    return line * (MOST_BYTES // len(line))
+
+
+def large_blocks():
+    """The largest blocks until the zone is full, and refusals after that."""
+    return "1 new r0 scanned 4096\n" * 1000
+
+
+CASES = {case.__name__: case for case in (births, long_lines, comments, large_blocks)}
+
+
+def run(script):
+    """The least time of five runs in seconds, and the most memory in megabytes."""
+    times = []
+    memory = 0
+    with tempfile.NamedTemporaryFile("w") as given:
+        given.write(script)
+        given.flush()
+        for _ in range(5):
+            with open(given.name) as source:
+                start = time.perf_counter()
+                child = subprocess.Popen([PROGRAM, "play"], stdin=source, stdout=subprocess.DEVNULL)
+                _, status, usage = os.wait4(child.pid, 0)
+                times.append(time.perf_counter() - start)
+                if status != 0:
+                    sys.exit(f"the program ended with status {status}")
+                memory = max(memory, usage.ru_maxrss / 1024)
+    return min(times), memory
+
+
+def main():
+    names = sys.argv[1:] or list(CASES)
+    print(f"{'case':14}{'bytes':>10}{'lines':>8}{'seconds':>10}{'most MB':>10}")
+    for name in names:
+        script = CASES[name]()
+        seconds, memory = run(script)
+        print(f"{name:14}{len(script):10}{script.count(chr(10)):8}{seconds:10.3f}{memory:10.1f}", flush=True)
+
+
+if __name__ == "__main__":
+    main()

@@ -1,0 +1,4 @@
+pub mod Trees
+pub mod Added
+pub mod Ends
+pub mod PlayedLines

@@ -1,0 +1,35 @@
+use Rattle.std.proofs.Common.{◌≡◌, ℕ, None, Some, refl, sym, ap, ◌∙◌, subst}
+use Rattle.std.specs.List.Sorted.{IsStrictlySortedBy}
+use Rattle.std.specs.FinMap.{len, len-empty}
+use Rattle.az_base.specs.declared.block_id.BlockId.{BlockId}
+use Rattle.az_base.specs.Ids.{id_cmp, among}
+use Rattle.az_base.specs.Places.{loc_cmp, pair_cmp}
+use Rattle.zone_model.specs.State.{is_own, without_blocks}
+use Rattle.zone_model.specs.Stats.{stats_of}
+use Rattle.zone_model.specs.Collection.{Leaves, with_end}
+use Rattle.zone_model.proofs.Steps.{step_plain, unseen}
+use Rattle.zone_model.proofs.Leaving.{stats_without_own}
+use Rattle.autozone.proofs.Ends.{own_sorted, listed_is_own}
+use Rattle.autozone.proofs.plain.ends.leave.Goals as goal
+
+pub returns : goal.returns
+returns c = λ z s.
+    let p = c.args.plain.now in
+    let gone = c.in_ok-gone.gone.list in
+    let listed = c.in_ok-gone.ensures.own in
+    let ordered = c.in_ok-gone.ensures.ordered in
+    let own : (q : BlockId) → among gone q ≡ is_own z p.thread q = λ q. ap (λ l. among l q) listed ∙ listed_is_own p z s ordered q in
+    let after = with_end (without_blocks z gone) p.thread in
+    let leaves : Leaves z p.thread gone after = record {
+      no_cycle = λ k h. let none : None ≡ Some k = sym s.cycle ∙ h.0 in cc (none);
+      gone_ones = (subst (IsStrictlySortedBy id_cmp) (sym listed) (own_sorted p.thread p.blocks.entries ordered), λ q. (λ h. sym (own q) ∙ h, λ h. own q ∙ h));
+      does = refl;
+    } in
+    let before : ◌≡◌ record { blocks = c.from.result; quanta = c.from-2.result; retained = 0; weak = 0; assocs = 0 } (stats_of z) = λ i. record {
+      blocks = (c.from.ensures ∙ sym s.escaped) i;
+      quanta = (c.from-2.ensures ∙ sym s.used) i;
+      retained = sym (ap len s.counts ∙ len-empty id_cmp ℕ) i;
+      weak = sym (ap len s.weak ∙ len-empty loc_cmp BlockId) i;
+      assocs = sym (ap len s.assocs ∙ len-empty pair_cmp BlockId) i;
+    } in
+    (after, step_plain z _ after s.running (λ id n. n) refl (after, leaves, sym (unseen after s.cycle)), before ∙ sym (stats_without_own z p.thread gone own))

@@ -1,0 +1,51 @@
+//! The program `autozone`: it plays a script of calls to a garbage collected zone, and writes the history of the zone.
+//!
+//! `top` is the call that does all of it, over any source and sinks, with the contract that says what the program
+//! promises; `command` has the commands, `plain` plays, and `text` writes. `main` only makes the ends.
+#![tactic(auto)]
+
+use az_base::NoMemory;
+use az_outside::{StdSink, StdSource};
+use saying::say;
+use status::Status;
+use std::env;
+use std::process::ExitCode;
+use top::autozone;
+
+mod command;
+mod plain;
+mod saying;
+mod status;
+mod text;
+mod top;
+
+/// The words after the program's name.
+fn words(rt: &HostRuntime) -> Result<Vec<String>, NoMemory> {
+    let mut words = Vec::new(rt.alloc());
+    let Ok(args) = env::args(rt) else {
+        return Err(NoMemory);
+    };
+    for word in args.skip(1) {
+        if words.push(word).is_err() {
+            return Err(NoMemory);
+        }
+    }
+    Ok(words)
+}
+
+fn main(rt: HostRuntime) -> ExitCode {
+    let mut source = StdSource::new(rt.stdin());
+    let mut out = StdSink::new(rt.stdout());
+    let mut err = StdSink::new(rt.stderr());
+    let status = match words(&rt) {
+        Ok(words) => autozone(rt.alloc(), &words, &mut source, &mut out, &mut err),
+        Err(NoMemory) => {
+            say(&mut err, "autozone: no memory\n");
+            Status::NoMemory
+        }
+    };
+    ExitCode::from(status.number())
+}
+
+#[cfg(test)]
+mod tests;

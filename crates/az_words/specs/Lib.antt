@@ -1,0 +1,5 @@
+pub mod Lines
+pub mod Words
+pub mod Numerals
+pub mod Grammar
+pub mod Laws

@@ -1,0 +1,65 @@
+-- Readers one after the other
+use Rattle.std.proofs.Common.{◌≡◌, ℕ, ◌⊎◌, inl, inr, Bool, true, false, cond, List, [], ◌∷◌, Option, Some, None, Result, Ok, Err, refl, ap}
+use Rattle.heap_script.specs.declared.cause.Cause.{Cause}
+use Rattle.heap_script.specs.declared.cause.Cause.TheVariants.{TooManyArguments}
+use Rattle.heap_script.specs.Reading.{◌>>=◌, or_cause, next_as, no_more}
+
+-- a choice that gave a value went this way
+pub chosen : {A : Type 0} (b : Bool) (o : Option A) (x : A) → cond b o None ≡ Some x → (b ≡ true) × (o ≡ Some x)
+chosen true o x e = (refl, e)
+chosen false o x e = cc
+
+-- a choice that gave a value went past the error
+pub passed : {A : Type 0} (b : Bool) (cause : Cause) (r : Result A Cause) (x : A) → cond b (Err cause) r ≡ Ok x → (b ≡ false) × (r ≡ Ok x)
+passed true cause r x e = cc
+passed false cause r x e = (refl, e)
+
+-- where two steps gave a value, each gave one
+pub bind_ok : {A B E : Type 0} (r : Result A E) (f : A → Result B E) (y : B) → (r >>= f) ≡ Ok y → (x : A) × (r ≡ Ok x) × (f x ≡ Ok y)
+bind_ok (Ok x) f y e = (x, refl, e)
+bind_ok (Err d) f y e = cc
+
+-- where two steps gave an error, one of them gave it
+pub bind_err : {A B E : Type 0} (r : Result A E) (f : A → Result B E) (d : E) → (r >>= f) ≡ Err d → (◌≡◌ {A = Result A E} r (Err d)) ⊎ ((x : A) × (r ≡ Ok x) × (f x ≡ Err d))
+bind_err {A} {B} {E} (Ok x) f d e = inr (x, refl, e)
+bind_err {A} {B} {E} (Err c) f d e = inl (cc)
+
+pub regroup : {A B C E : Type 0} (r : Result A E) (f : A → Result B E) (g : B → Result C E) → (r >>= λ x. f x >>= g) ≡ ((r >>= f) >>= g)
+regroup (Ok x) f g = refl
+regroup (Err e) f g = refl
+
+pub ok_same : {A E : Type 0} (a b : A) → ◌≡◌ {A = Result A E} (Ok a) (Ok b) → a ≡ b
+ok_same a b e = cc
+
+pub ok_is_not_err : {A E : Type 0} (x : A) (d : E) → ◌≡◌ {A = Result A E} (Ok x) (Err d) → ⊥
+ok_is_not_err x d e = cc
+
+-- where the first word was read
+pub next_ok : {A : Type 0} (read : List ℕ → Option A) (cause : Cause) (words : List (List ℕ)) (x : A × List (List ℕ)) → next_as read cause words ≡ Ok x
+    → (word : List ℕ) × (words ≡ word ∷ x.1) × (read word ≡ Some x.0)
+unfolding next_as
+next_ok read cause [] x e = cc
+next_ok {A} read cause (word ∷ words) x e =
+    let at : (o : Option A) → or_cause cause words o ≡ Ok x → (o ≡ Some x.0) × (words ≡ x.1) = elim [ None ↦ λ d. cc | Some y ↦ λ d. (cc, cc) ] in
+    let p = at (read word) e in
+    (word, ap (λ ws. word ∷ ws) p.1, p.0)
+
+-- where the first word could not be read
+pub next_err : {A : Type 0} (read : List ℕ → Option A) (cause d : Cause) (words : List (List ℕ)) → next_as read cause words ≡ Err d
+    → (cause ≡ d) × ((word : List ℕ) (others : List (List ℕ)) (x : A) → words ≡ word ∷ others → read word ≡ Some x → ⊥)
+unfolding next_as
+next_err read cause d [] e = (cc, λ word others x at is. cc)
+next_err {A} read cause d (w ∷ words) e =
+    let at : (o : Option A) → or_cause cause words o ≡ Err d → (cause ≡ d) × (o ≡ None) = elim [ None ↦ λ h. (cc, refl) | Some y ↦ λ h. cc ] in
+    let p = at (read w) e in
+    (p.0, λ word others x is some. cc)
+
+pub no_more_ok : (words : List (List ℕ)) (x : Unit {0}) → no_more words ≡ Ok x → words ≡ []
+unfolding no_more
+no_more_ok [] x e = refl
+no_more_ok (word ∷ words) x e = cc
+
+pub no_more_err : (words : List (List ℕ)) (d : Cause) → no_more words ≡ Err d → TooManyArguments ≡ d
+unfolding no_more
+no_more_err [] d e = cc
+no_more_err (w ∷ words) d e = cc

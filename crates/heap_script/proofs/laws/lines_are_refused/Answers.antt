@@ -1,0 +1,5 @@
+use Rattle.heap_script.proofs.CauseLaws.{refused_ok, refused_from}
+use Rattle.heap_script.proofs.laws.lines_are_refused.Goals as goal
+
+pub returns : goal.returns
+returns c = λ only words cause. (refused_ok c.numbers_are_read.ensures only words cause, refused_from c.numbers_are_read.ensures only words cause)

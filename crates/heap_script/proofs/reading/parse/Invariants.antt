@@ -1,0 +1,13 @@
+use Rattle.std.proofs.Common.{◌≡◌, ◌+◌, ◌≤◌, [], length}
+use Rattle.az_words.specs.Lines.{lines_of}
+use Rattle.heap_script.proofs.Loop.{total}
+use Rattle.heap_script.proofs.reading.parse.Given as goal
+
+abbrev pub invariant-lines : goal.invariant-lines
+invariant-lines l = record {
+  read : total l.lines.items (l.number + 1) (lines_of l.rest) ≡ total [] 1 (lines_of l.bytes);
+  few : l.number ≤ 65536;
+}
+
+abbrev pub decreases-lines : goal.decreases-lines
+decreases-lines l = length l.rest

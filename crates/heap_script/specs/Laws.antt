@@ -1,0 +1,23 @@
+-- What is read of a script, said apart from how
+use Rattle.std.specs.Prelude.{◌≡◌, ◌↔◌, ℕ, List, Option, Ok, Err}
+use Rattle.heap_script.specs.declared.cause.Cause.{Cause}
+use Rattle.heap_script.specs.declared.line.Line.{Line}
+use Rattle.heap_script.specs.declared.script.Script.{Script}
+use Rattle.heap_script.specs.Reading.{Refusal, line_of, script_of}
+use Rattle.heap_script.specs.Grammar.{IsLine, LineCause, IsScript, IsRefused}
+
+-- exactly the call lines of the grammar are read, each as what it says
+abbrev pub LinesAreRead : Type 0
+LinesAreRead = (only : Option ℕ) (words : List (List ℕ)) (line : Line) → (line_of only words ≡ Ok line) ↔ IsLine only words line
+
+-- a call line is refused exactly where it lacks what the grammar wants, with that cause
+abbrev pub LinesAreRefused : Type 0
+LinesAreRefused = (only : Option ℕ) (words : List (List ℕ)) (cause : Cause) → (line_of only words ≡ Err cause) ↔ LineCause only words cause
+
+-- exactly the scripts of the grammar are read, each as what it says
+abbrev pub ScriptsAreRead : Type 0
+ScriptsAreRead = (bytes : List ℕ) (script : Script) → (script_of bytes ≡ Ok script) ↔ IsScript bytes script
+
+-- bytes are refused exactly at their first line that has a cause, with the first one of that line
+abbrev pub ScriptsAreRefused : Type 0
+ScriptsAreRefused = (bytes : List ℕ) (refusal : Refusal) → (script_of bytes ≡ Err refusal) ↔ IsRefused bytes refusal

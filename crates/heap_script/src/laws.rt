@@ -1,0 +1,34 @@
+//! Laws that say what is read apart from how: exactly the scripts of the grammar are read, and all else is refused at the
+//! first line that lacks what the grammar wants.
+ghost use Rattle.heap_script.specs.Laws.{LinesAreRead, LinesAreRefused, ScriptsAreRead, ScriptsAreRefused};
+
+use az_words::numbers_are_read;
+
+/// Exactly the call lines of the grammar are read, each as what it says.
+pub fn lines_are_read()
+    ensures { LinesAreRead }
+{
+    numbers_are_read();
+}
+
+/// A call line is refused exactly where it lacks what the grammar wants, with that cause.
+pub fn lines_are_refused()
+    ensures { LinesAreRefused }
+{
+    numbers_are_read();
+}
+
+/// Exactly the scripts of the grammar are read, each as what it says.
+pub fn scripts_are_read()
+    ensures { ScriptsAreRead }
+{
+    lines_are_read();
+}
+
+/// Bytes are refused exactly at their first line that has a cause, with the first one of that line.
+pub fn scripts_are_refused()
+    ensures { ScriptsAreRefused }
+{
+    lines_are_read();
+    lines_are_refused();
+}

@@ -1,0 +1,26 @@
+//! Scripts: what the threads of a zone are to do, as text.
+//!
+//! A script is lines of words. A call line is a thread, a call and its arguments; a line without words, or whose first
+//! word begins with `#`, says nothing. The bytes are read line by line, and each line word by word, with one reader for
+//! each kind of word. The first line that has a cause refuses the whole, with the first of its causes, in the order of
+//! `Cause`: so each reader names the cause that stands where its word is missing or wrong.
+#![tactic(auto)]
+
+mod call_name;
+mod calls;
+mod cause;
+mod entries;
+mod laws;
+mod line;
+mod pieces;
+mod reading;
+mod script;
+#[cfg(test)]
+mod tests;
+
+pub use cause::{Cause, ScriptErr};
+pub use laws::{lines_are_read, lines_are_refused, scripts_are_read, scripts_are_refused};
+pub use line::{Line, LineList};
+pub use reading::parse;
+pub use script::Script;
+pub use zone_model::Act;
