@@ -11,12 +11,12 @@ use az_base::ThreadNo;
 use az_words::{Words, is_text, next_word};
 
 /// The most bytes of a line, its line feed not counted.
-const MOST_BYTES: usize = 8192;
+const MOST_BYTES: usize = 8_192;
 
 /// The most lines of a script.
 const MOST_LINES: u32 = 65_536;
 
-/// A thread is the only one so far.
+/// Refuses a thread other than that of the call lines before.
 fn same_thread(only: Option<ThreadNo>, thread: ThreadNo) -> Result<(), Cause>
     ensures { result ≡ same_thread only thread }
 {
@@ -45,7 +45,7 @@ fn call_line(only: Option<ThreadNo>, line: &[u8]) -> Result<Line, Cause>
     Ok(Line { thread, act })
 }
 
-/// The line has no word, or its first word begins with `#`.
+/// Whether the line has no word, or its first word begins with `#`.
 #[tactic(auto, unfolding(crate::specs::Reading::is_skipped))]
 fn is_skipped(line: &[u8]) -> bool
     ensures { result ≡ is_skipped (words_of line.now) }
