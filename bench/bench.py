@@ -38,7 +38,22 @@ def large_blocks():
     return "1 new r0 scanned 4096\n" * 1000
 
 
-CASES = {case.__name__: case for case in (births, long_lines, comments, large_blocks)}
+def statistics():
+    """Statistics of a zone of 5,000 escaped blocks."""
+    return "option local 0\n" + "1 new r0 scanned 1\n" * 5000 + "1 stats\n" * 60_000
+
+
+def chain():
+    """20,000 blocks, each with a reference to the one before, which one call makes escape."""
+    return "1 new r1 scanned 1\n1 store r1 0 r0\n1 copy r0 r1\n" * 20_000 + "1 setroot g0 r0\n"
+
+
+def stores():
+    """Stores between two of 5,000 escaped blocks."""
+    return "option local 0\n" + "1 new r0 scanned 1\n" * 5000 + "1 new r1 scanned 1\n" + "1 store r0 0 r1\n" * 60_000
+
+
+CASES = {case.__name__: case for case in (births, long_lines, comments, large_blocks, statistics, chain, stores)}
 
 
 def run(script):

@@ -88,4 +88,4 @@ unescaped_seen (Some b) = since_shown b.escaped
 pub listed_is_own : (p : Plain) (z : State) → StandsFor p z → tree.IsOrdered id_cmp p.blocks → (q : BlockId) → among (own_among p.thread p.blocks.entries) q ≡ is_own z p.thread q
 listed_is_own p z s ordered q =
     among-own p.thread p.blocks.entries ordered q
-    ∙ sym (ap (λ o. (q.thread == p.thread) && option_map_or (λ (b : Block). is_none b.since) o false) (s.blocks q) ∙ ap (λ b. (q.thread == p.thread) && b) (unescaped_seen (tree.get id_cmp p.blocks q)))
+    ∙ sym (ap (λ o. (q.thread == p.thread) && option_map_or (λ (b : Block). is_none b.since) o false) (s.shows.blocks q) ∙ ap (λ b. (q.thread == p.thread) && b) (unescaped_seen (tree.get id_cmp p.blocks q)))

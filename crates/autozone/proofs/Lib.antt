@@ -1,4 +1,12 @@
 pub mod Trees
+pub mod Births
+pub mod Newborn
 pub mod Added
 pub mod Ends
 pub mod PlayedLines
+pub mod Naming
+pub mod Changes
+pub mod Walking
+pub mod Marking
+pub mod Escaping
+pub mod Publishing

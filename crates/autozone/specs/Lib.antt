@@ -1,6 +1,9 @@
 pub mod Registers
+pub mod Soundness
 pub mod StandsFor
 pub mod Text
+pub mod Words
+pub mod Escapes
 pub mod Histories
 pub mod Playing
 pub mod Statuses

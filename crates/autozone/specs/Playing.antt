@@ -11,9 +11,18 @@ use Rattle.zone_model.specs.State.{State}
 use Rattle.zone_model.specs.Stats.{stats_of}
 use Rattle.zone_model.specs.History.{Ends, calls_of}
 
--- a call that is built: a new block without actions
+-- a call that is built
 abbrev pub IsBuiltCall : Call → Type 0
-IsBuiltCall (call.New to layout actions) = actions ≡ []
+IsBuiltCall (call.New to layout actions) = Unit {0}
+IsBuiltCall (call.Load to from at) = Unit {0}
+IsBuiltCall (call.Store into at from) = Unit {0}
+IsBuiltCall (call.Put into at number) = Unit {0}
+IsBuiltCall (call.Get from at) = Unit {0}
+IsBuiltCall (call.Copy to from) = Unit {0}
+IsBuiltCall (call.DropReg reg) = Unit {0}
+IsBuiltCall (call.SetRoot root from) = Unit {0}
+IsBuiltCall (call.GetRoot to root) = Unit {0}
+IsBuiltCall call.Stats = Unit {0}
 IsBuiltCall _ = ⊥
 
 -- what is asked for is one call, and this one

@@ -2,8 +2,11 @@
 
 mod births;
 mod ends;
+mod escapes;
 mod playing;
 mod registers;
+mod roots;
+mod words;
 mod zone;
 
 pub use playing::{Played, play};

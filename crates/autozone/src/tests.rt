@@ -30,7 +30,7 @@ fn ran(
         5000,
         vec![in alloc; failing_read]?,
     );
-    let Ok(mut out) = MemorySink::new(alloc, 10, vec![in alloc; failing_write]?, 1000) else {
+    let Ok(mut out) = MemorySink::new(alloc, 10, vec![in alloc; failing_write]?, 10_000) else {
         return Err(Fail::from("no memory"));
     };
     let Ok(mut err) = MemorySink::new(alloc, 10, Vec::new(alloc), 1000) else {
@@ -169,5 +169,128 @@ fn options_bound_the_zone(rt: HostRuntime) -> Result<(), Fail> {
         let got = played(&rt, script, *options)?;
         assert_eq!(rt; got.as_str(), *text);
     }
+    Ok(())
+}
+
+#[test]
+fn worked_scripts(rt: HostRuntime) -> Result<(), Fail> {
+    let rows = [
+        (
+            "1 new r0 scanned 0\n1 new r1 scanned 4096\n1 setroot g0 r0\n1 stats\n",
+            "1 new r0 scanned 0 = 1.0\n1 new r1 scanned 4096 = 1.1\n1 setroot g0 r0 = ok\n1 stats = blocks 1 quanta 1 retained 0 weak 0 assocs 0\n1 leave = reclaimed 1.1\nend entries 5 blocks 1 quanta 1 retained 0 weak 0 assocs 0\n",
+        ),
+        (
+            "1 new r0 scanned 2\n1 store r0 2 r1\n1 store r1 9 r0\n",
+            "1 new r0 scanned 2 = 1.0\n1 store r0 2 r1 = misuse 2 NoWord\n1 store r1 9 r0 = misuse 1 NullBlock\n1 leave = reclaimed 1.0\nend entries 4 blocks 0 quanta 0 retained 0 weak 0 assocs 0\n",
+        ),
+        (
+            "1 new r0 object SP\n1 store r0 1 r0\n1 put r0 0 7\n1 put r0 1 7\n1 get r0 1\n1 load r2 r0 1\n",
+            "1 new r0 object SP = 1.0\n1 store r0 1 r0 = misuse 3 WrongClass\n1 put r0 0 7 = misuse 3 WrongClass\n1 put r0 1 7 = ok\n1 get r0 1 = 7\n1 load r2 r0 1 = misuse 3 WrongClass\n1 leave = reclaimed 1.0\nend entries 7 blocks 0 quanta 0 retained 0 weak 0 assocs 0\n",
+        ),
+        (
+            "1 new r0 scanned 2\n1 setroot g0 r0\n",
+            "1 new r0 scanned 2 = 1.0\n1 setroot g0 r0 = ok\n1 leave = reclaimed none\nend entries 3 blocks 1 quanta 1 retained 0 weak 0 assocs 0\n",
+        ),
+        // A cycle of two blocks escapes whole.
+        (
+            "1 new r0 scanned 1\n1 new r1 scanned 1\n1 store r0 0 r1\n1 store r1 0 r0\n1 setroot g7 r0\n1 stats\n1 getroot r2 g7\n1 load r3 r2 0\n1 setroot g7 r9\n1 getroot r2 g7\n",
+            "1 new r0 scanned 1 = 1.0\n1 new r1 scanned 1 = 1.1\n1 store r0 0 r1 = ok\n1 store r1 0 r0 = ok\n1 setroot g7 r0 = ok\n1 stats = blocks 2 quanta 2 retained 0 weak 0 assocs 0\n1 getroot r2 g7 = 1.0\n1 load r3 r2 0 = 1.1\n1 setroot g7 r9 = ok\n1 getroot r2 g7 = null\n1 leave = reclaimed none\nend entries 11 blocks 2 quanta 2 retained 0 weak 0 assocs 0\n",
+        ),
+        // An escape that doesn't fit changes nothing.
+        (
+            "option heap 3\n1 new r0 scanned 4\n1 new r1 scanned 3\n1 store r0 0 r1\n1 setroot g0 r0\n1 getroot r2 g0\n1 stats\n1 load r3 r0 0\n1 setroot g0 r1\n1 store r1 0 r0\n1 load r3 r1 0\n1 new r4 scanned 0\n1 stats\n",
+            "option heap 3\n1 new r0 scanned 4 = 1.0\n1 new r1 scanned 3 = 1.1\n1 store r0 0 r1 = ok\n1 setroot g0 r0 = misuse 7 ZoneFull\n1 getroot r2 g0 = null\n1 stats = blocks 0 quanta 0 retained 0 weak 0 assocs 0\n1 load r3 r0 0 = 1.1\n1 setroot g0 r1 = ok\n1 store r1 0 r0 = misuse 7 ZoneFull\n1 load r3 r1 0 = null\n1 new r4 scanned 0 = 1.2\n1 stats = blocks 1 quanta 2 retained 0 weak 0 assocs 0\n1 leave = reclaimed 1.0 1.2\nend entries 13 blocks 1 quanta 2 retained 0 weak 0 assocs 0\n",
+        ),
+        // A block that is born escaped holds null and 0.
+        (
+            "option local 0\n1 new r0 object SWP\n1 load r1 r0 0\n1 get r0 2\n1 get r0 1\n1 load r1 r0 1\n1 stats\n",
+            "option local 0\n1 new r0 object SWP = 1.0\n1 load r1 r0 0 = null\n1 get r0 2 = 0\n1 get r0 1 = misuse 3 WrongClass\n1 load r1 r0 1 = misuse 3 WrongClass\n1 stats = blocks 1 quanta 2 retained 0 weak 0 assocs 0\n1 leave = reclaimed none\nend entries 7 blocks 1 quanta 2 retained 0 weak 0 assocs 0\n",
+        ),
+        // A block that refers to an escaped one escapes itself.
+        (
+            "1 new r0 scanned 1\n1 new r1 scanned 1\n1 setroot g0 r0\n1 store r1 0 r0\n1 setroot g1 r1\n1 drop r0\n1 load r5 r1 0\n1 store r5 0 r5\n1 stats\n",
+            "1 new r0 scanned 1 = 1.0\n1 new r1 scanned 1 = 1.1\n1 setroot g0 r0 = ok\n1 store r1 0 r0 = ok\n1 setroot g1 r1 = ok\n1 drop r0 = ok\n1 load r5 r1 0 = 1.0\n1 store r5 0 r5 = ok\n1 stats = blocks 2 quanta 2 retained 0 weak 0 assocs 0\n1 leave = reclaimed none\nend entries 10 blocks 2 quanta 2 retained 0 weak 0 assocs 0\n",
+        ),
+        // What is stored into an escaped block escapes.
+        (
+            "1 new r0 scanned 1\n1 setroot g255 r0\n1 new r1 unscanned 1\n1 new r2 scanned 1\n1 store r2 0 r1\n1 store r0 0 r2\n1 put r1 0 18446744073709551615\n1 get r1 0\n1 put r0 0 1\n1 stats\n1 store r0 0 r15\n1 load r1 r0 0\n",
+            "1 new r0 scanned 1 = 1.0\n1 setroot g255 r0 = ok\n1 new r1 unscanned 1 = 1.1\n1 new r2 scanned 1 = 1.2\n1 store r2 0 r1 = ok\n1 store r0 0 r2 = ok\n1 put r1 0 18446744073709551615 = ok\n1 get r1 0 = 18446744073709551615\n1 put r0 0 1 = misuse 3 WrongClass\n1 stats = blocks 3 quanta 3 retained 0 weak 0 assocs 0\n1 store r0 0 r15 = ok\n1 load r1 r0 0 = null\n1 leave = reclaimed none\nend entries 13 blocks 3 quanta 3 retained 0 weak 0 assocs 0\n",
+        ),
+        // A finaliser's block is born escaped; what it passes must be a Strong word.
+        (
+            "option heap 1\n1 new r0 object SP pass g1 2\n1 new r0 object SP keep g0 pass g1 1\n1 new r0 object SP keep g0 pass g1 0\n1 new r1 object P keep g0\n1 copy r2 r0\n1 load r0 r2 0\n",
+            "option heap 1\n1 new r0 object SP pass g1 2 = misuse 2 NoWord\n1 new r0 object SP keep g0 pass g1 1 = misuse 3 WrongClass\n1 new r0 object SP keep g0 pass g1 0 = 1.0\n1 new r1 object P keep g0 = misuse 7 ZoneFull\n1 copy r2 r0 = ok\n1 load r0 r2 0 = null\n1 leave = reclaimed none\nend entries 7 blocks 1 quanta 1 retained 0 weak 0 assocs 0\n",
+        ),
+    ];
+    for (script, text) in &rows {
+        let (status, out, err) = ran(&rt, &["play"], script.as_bytes(), 0, 0)?;
+        assert_eq!(rt; status, Status::Done);
+        assert_eq!(rt; out.as_str(), *text);
+        assert_eq!(rt; err.as_str(), "");
+    }
+    Ok(())
+}
+
+#[test]
+fn a_tree_of_1000_blocks_escapes_in_one_call(rt: HostRuntime) -> Result<(), Fail> {
+    let mut script = String::new(rt.alloc());
+    for _ in 0..500 {
+        script.push_str(
+            "1 new r1 scanned 2\n1 new r2 scanned 0\n1 store r1 0 r0\n1 store r1 1 r2\n1 copy r0 r1\n",
+        )?;
+    }
+    script.push_str("1 stats\n1 setroot g0 r0\n1 stats\n")?;
+    let text = played(&rt, script.as_str(), Options::usual())?;
+    assert!(rt;
+        text.as_str().ends_with(
+            "1 stats = blocks 0 quanta 0 retained 0 weak 0 assocs 0\n1 setroot g0 r0 = ok\n1 stats = blocks 1000 quanta 1000 retained 0 weak 0 assocs 0\n1 leave = reclaimed none\nend entries 2504 blocks 1000 quanta 1000 retained 0 weak 0 assocs 0\n"
+        )
+    );
+    Ok(())
+}
+
+#[test]
+fn scripts_are_refused(rt: HostRuntime) -> Result<(), Fail> {
+    let rows: [(&[u8], &str); 7] = [
+        (
+            b"1 new r0 scanned 4097\n",
+            "autozone: line 1: WrongArgument\n",
+        ),
+        (
+            b"1 new r0 scanned 2\n1 setroot g",
+            "autozone: line 2: WrongArgument\n",
+        ),
+        (
+            b"1 new r0 scanned 2\n1 \xff\n",
+            "autozone: line 2: NotText\n",
+        ),
+        (b"17 stats\n", "autozone: line 1: NoThread\n"),
+        (b"1 mark\n", "autozone: line 1: NoCall\n"),
+        (b"1 stats now\n", "autozone: line 1: TooManyArguments\n"),
+        (b"1 stats\noption heap 1\n", "autozone: line 2: NoThread\n"),
+    ];
+    for (script, text) in &rows {
+        let (status, out, err) = ran(&rt, &["play"], script, 0, 0)?;
+        assert_eq!(rt; status, Status::ScriptRefused);
+        assert_eq!(rt; out.as_str(), "");
+        assert_eq!(rt; err.as_str(), *text);
+    }
+    Ok(())
+}
+
+#[test]
+fn lines_have_bounds(rt: HostRuntime) -> Result<(), Fail> {
+    let spaces = vec![in rt.alloc(); b' '; 8193]?;
+    let (status, _, err) = ran(&rt, &["play"], &spaces, 0, 0)?;
+    assert_eq!(rt; status, Status::ScriptRefused);
+    assert_eq!(rt; err.as_str(), "autozone: line 1: LineTooLong\n");
+    let (status, _, _) = ran(&rt, &["play"], &spaces[1..], 0, 0)?;
+    assert_eq!(rt; status, Status::Done);
+    let feeds = vec![in rt.alloc(); b'\n'; 65_537]?;
+    let (status, _, err) = ran(&rt, &["play"], &feeds, 0, 0)?;
+    assert_eq!(rt; status, Status::ScriptRefused);
+    assert_eq!(rt; err.as_str(), "autozone: line 65537: TooManyLines\n");
+    let (status, _, _) = ran(&rt, &["play"], &feeds[1..], 0, 0)?;
+    assert_eq!(rt; status, Status::Done);
     Ok(())
 }

@@ -1,5 +1,6 @@
 pub mod Lines
 pub mod Words
+pub mod Parts
 pub mod Numerals
 pub mod Grammar
 pub mod Laws

@@ -8,11 +8,13 @@
 mod laws;
 mod lines;
 mod numerals;
+mod parts;
 mod texts;
 mod words;
 
 pub use laws::{numbers_are_read, numerals_are_read};
 pub use lines::next_line;
 pub use numerals::{number, numeral, small_number};
+pub use parts::cut_at;
 pub use texts::is_text;
 pub use words::{Words, is_word, next_word};

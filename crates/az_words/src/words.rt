@@ -1,5 +1,5 @@
 //! The words of a line.
-ghost use Rattle.std.specs.Prelude.{◌≡◌, ◌∷◌, ◌<◌, ◌≤◌, ℕ, true, false, slice_index, [], length, IfSome, IfNone};
+ghost use Rattle.std.specs.Prelude.{◌≡◌, ◌∷◌, ◌<◌, ◌≤◌, ℕ, true, false, slice_index, List, [], length, IfSome, IfNone};
 ghost use Rattle.std.specs.Str.{bytes_eq};
 ghost use Rattle.az_words.specs.Words.{is_blank, words_of};
 
@@ -73,6 +73,15 @@ impl<'a> Words<'a> {
         ensures { result ≡ words_of line.now }
     {
         Words { rest: line }
+    }
+
+    /// The first word, which stays; None exactly where none is left. O(bytes up to its end).
+    pub fn peek(&self) -> Option<&'a [u8]>
+        ensures some { IfSome result (λ word. (left : List (List ℕ)) × (self.now ≡ word.now ∷ left)) }
+        ensures none { IfNone result (self.now ≡ []) }
+    {
+        let (word, _) = next_word(self.rest)?;
+        Some(word)
     }
 
     /// Takes the first word off; None exactly where none is left. O(bytes up to its end).

@@ -1,7 +1,12 @@
 pub mod Steps
+pub mod Actions
+pub mod Objects
+pub mod NoArguments
 pub mod Loop
 pub mod Facts
+pub mod WordLaws
 pub mod LineLaws
 pub mod CauseLaws
+pub mod OptionLaws
 pub mod ScriptLaws
 pub mod RefusalLaws

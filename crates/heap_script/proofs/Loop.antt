@@ -1,81 +1,91 @@
 -- Reading lines one after the other, as a loop does
-use Rattle.std.proofs.Common.{◌≡◌, ℕ, ◌+◌, List, [], ◌∷◌, ◌++◌, Some, None, Result, Ok, Err, refl, sym, ap, ◌∙◌, append_assoc, append-nil}
+use Rattle.std.proofs.Common.{◌≡◌, ℕ, ◌+◌, List, [], ◌∷◌, ◌++◌, Option, Result, Ok, Err, refl, sym, ap, ◌∙◌, append_assoc, append-nil}
+use Rattle.az_base.specs.declared.options.Options.{Options}
 use Rattle.az_base.specs.OptionRanges.{usual_options}
 use Rattle.az_words.specs.Lines.{lines_of}
+use Rattle.heap_script.specs.declared.entries.Entry.{Entry}
+use Rattle.heap_script.specs.declared.entries.Entry.TheVariants as entry
 use Rattle.heap_script.specs.declared.line.Line.{Line}
+use Rattle.heap_script.specs.declared.script.Script.{Script}
 use Rattle.heap_script.specs.declared.cause.Cause.{Cause}
-use Rattle.heap_script.specs.Reading.{◌>>=◌, Refusal, entry_of, lines_from, first_thread, thread_after, script_of}
+use Rattle.heap_script.specs.declared.cause.LineErr.{LineErr}
+use Rattle.heap_script.specs.declared.cause.LineErr.TheVariants as errors
+use Rattle.heap_script.specs.Causes.{err_at}
+use Rattle.heap_script.specs.Scripts.{Parses}
+use Rattle.heap_script.specs.Reading.{◌>>=◌, Gives, Refusal, entry_of, entries_from, with_entry, options_after, onto_calls, calls_of, first_thread, thread_after, script_of}
 
--- the lines so far, and what is still read
-abbrev pub with_front : List Line → Result (List Line) Refusal → Result (List Line) Refusal
-with_front front read = read >>= λ xs. Ok (front ++ xs)
+-- a script of these options and these lines, and then what is still read
+abbrev pub going_on : Options → List Line → List Entry → Script
+going_on o front entries = record { options = options_after o entries; lines = front ++ calls_of entries }
 
--- the lines so far, and those that are read of the rest
-unfoldable pub total : List Line → ℕ → List (List ℕ) → Result (List Line) Refusal
-total front n lines = with_front front (lines_from n (first_thread front) lines)
+abbrev pub with_front : Options → List Line → Result (List Entry) Refusal → Result Script Refusal
+with_front o front read = read >>= λ entries. Ok (going_on o front entries)
 
-regroup : (front : List Line) (x : Line) (read : Result (List Line) Refusal) → with_front front (read >>= λ xs. Ok (x ∷ xs)) ≡ with_front (front ++ x ∷ []) read
-regroup front x (Ok xs) = ap {B = Result (List Line) Refusal} Ok (sym (append_assoc front (x ∷ []) xs))
-regroup front x (Err e) = refl
+-- what was read so far, and what is read of the rest
+unfoldable pub total : Options → List Line → ℕ → List (List ℕ) → Result Script Refusal
+total o front n lines = with_front o front (entries_from n (first_thread front) lines)
 
-same : (front : List Line) (read : Result (List Line) Refusal) → with_front front (read >>= λ xs. Ok xs) ≡ with_front front read
-same front (Ok xs) = refl
-same front (Err e) = refl
+-- the call lines with one line more
+abbrev pub with_call : List Line → Entry → List Line
+with_call front (entry.Call line) = front ++ line ∷ []
+with_call front e = front
 
-thread_stays : (front : List Line) → thread_after (first_thread front) None ≡ first_thread front
-thread_stays [] = refl
-thread_stays (x ∷ front) = refl
+thread_grows : (front : List Line) (e : Entry) → thread_after (first_thread front) e ≡ first_thread (with_call front e)
+thread_grows [] entry.Nothing = refl
+thread_grows [] (entry.Set set) = refl
+thread_grows [] (entry.Call line) = refl
+thread_grows (x ∷ front) entry.Nothing = refl
+thread_grows (x ∷ front) (entry.Set set) = refl
+thread_grows (x ∷ front) (entry.Call line) = refl
 
-thread_grows : (front : List Line) (x : Line) → thread_after (first_thread front) (Some x) ≡ first_thread (front ++ x ∷ [])
-thread_grows [] x = refl
-thread_grows (y ∷ front) x = refl
+lines_grow : (front : List Line) (e : Entry) (lines : List Line) → front ++ onto_calls e lines ≡ with_call front e ++ lines
+lines_grow front entry.Nothing lines = refl
+lines_grow front (entry.Set set) lines = refl
+lines_grow front (entry.Call line) lines = sym (append_assoc front (line ∷ []) lines)
 
-pub skips : (front : List Line) (n : ℕ) (line : List ℕ) (lines : List (List ℕ)) → entry_of n (first_thread front) line ≡ Ok None → total front n (line ∷ lines) ≡ total front (n + 1) lines
-unfolding total lines_from
-skips front n line lines e = rw (e, thread_stays front) (same front (lines_from (n + 1) (first_thread front) lines))
+grown : (o : Options) (front : List Line) (e : Entry) (entries : List Entry) → going_on o front (e ∷ entries) ≡ going_on (with_entry o e) (with_call front e) entries
+grown o front e entries = ap (λ lines. record { options = options_after (with_entry o e) entries; lines = lines }) (lines_grow front e (calls_of entries))
 
-pub adds : (front : List Line) (n : ℕ) (line : List ℕ) (lines : List (List ℕ)) (x : Line) → entry_of n (first_thread front) line ≡ Ok (Some x) → total front n (line ∷ lines) ≡ total (front ++ x ∷ []) (n + 1) lines
-unfolding total lines_from
-adds front n line lines x e = rw (e, thread_grows front x) (regroup front x (lines_from (n + 1) (first_thread (front ++ x ∷ [])) lines))
+regroup : (o : Options) (front : List Line) (e : Entry) (read : Result (List Entry) Refusal)
+    → with_front o front (read >>= λ entries. Ok (e ∷ entries)) ≡ with_front (with_entry o e) (with_call front e) read
+regroup o front e (Ok entries) = ap {B = Result Script Refusal} Ok (grown o front e entries)
+regroup o front e (Err r) = refl
 
-pub stops : (front : List Line) (n : ℕ) (line : List ℕ) (lines : List (List ℕ)) (cause : Cause) → entry_of n (first_thread front) line ≡ Err cause → total front n (line ∷ lines) ≡ Err (record { cause = cause; line = n })
-unfolding total lines_from
-stops front n line lines cause e = rw e refl
+says : (o : Options) (front : List Line) (n : ℕ) (line : List ℕ) (lines : List (List ℕ)) (e : Entry) → entry_of n (first_thread front) line ≡ Ok e
+    → total o front n (line ∷ lines) ≡ total (with_entry o e) (with_call front e) (n + 1) lines
+unfolding total entries_from
+says o front n line lines e is = rw (is, thread_grows front e) (regroup o front e (entries_from (n + 1) (first_thread (with_call front e)) lines))
 
-pub is_done : (front : List Line) (n : ℕ) → total front n [] ≡ Ok front
-unfolding total lines_from
-is_done front n = ap {B = Result (List Line) Refusal} Ok (append-nil front)
+stops : (o : Options) (front : List Line) (n : ℕ) (line : List ℕ) (lines : List (List ℕ)) (cause : Cause) → entry_of n (first_thread front) line ≡ Err cause
+    → total o front n (line ∷ lines) ≡ Err (record { cause = cause; line = n })
+unfolding total entries_from
+stops o front n line lines cause e = rw e refl
+
+is_done : (o : Options) (front : List Line) (n : ℕ) → total o front n [] ≡ Ok (record { options = o; lines = front })
+unfolding total entries_from
+is_done o front n = ap {B = Result Script Refusal} (λ lines. Ok (record { options = o; lines = lines })) (append-nil front)
 
 -- at the start nothing was read
-no_front : (read : Result (List Line) Refusal) → with_front [] read ≡ read
-no_front (Ok xs) = refl
-no_front (Err e) = refl
-
-pub from_nothing : (lines : List (List ℕ)) → total [] 1 lines ≡ lines_from 1 None lines
-unfolding total
-from_nothing lines = no_front (lines_from 1 None lines)
+pub at_start : (bytes : List ℕ) → total usual_options [] 1 (lines_of bytes) ≡ script_of bytes
+unfolding total script_of
+at_start bytes = refl
 
 -- the same at the rest of the bytes, whose first line was cut off
-pub skips_at : (front : List Line) (n : ℕ) (lines here : List (List ℕ)) (line : List ℕ) (whole : Result (List Line) Refusal) → here ≡ line ∷ lines
-    → entry_of n (first_thread front) line ≡ Ok None → total front n here ≡ whole → total front (n + 1) lines ≡ whole
-skips_at front n lines here line whole cut e so_far = sym (skips front n line lines e) ∙ ap (total front n) (sym cut) ∙ so_far
+pub says_at : (o : Options) (front : List Line) (n : ℕ) (lines here : List (List ℕ)) (line : List ℕ) (e : Entry) (whole : Result Script Refusal) → here ≡ line ∷ lines
+    → entry_of n (first_thread front) line ≡ Ok e → total o front n here ≡ whole → total (with_entry o e) (with_call front e) (n + 1) lines ≡ whole
+says_at o front n lines here line e whole cut is so_far = sym (says o front n line lines e is) ∙ ap (total o front n) (sym cut) ∙ so_far
 
-pub adds_at : (front : List Line) (n : ℕ) (lines here : List (List ℕ)) (line : List ℕ) (x : Line) (whole : Result (List Line) Refusal) → here ≡ line ∷ lines
-    → entry_of n (first_thread front) line ≡ Ok (Some x) → total front n here ≡ whole → total (front ++ x ∷ []) (n + 1) lines ≡ whole
-adds_at front n lines here line x whole cut e so_far = sym (adds front n line lines x e) ∙ ap (total front n) (sym cut) ∙ so_far
+pub stops_at : (o : Options) (front : List Line) (n : ℕ) (lines here : List (List ℕ)) (line : List ℕ) (cause : Cause) (whole : Result Script Refusal) → here ≡ line ∷ lines
+    → entry_of n (first_thread front) line ≡ Err cause → total o front n here ≡ whole → whole ≡ Err (record { cause = cause; line = n })
+stops_at o front n lines here line cause whole cut e so_far = sym so_far ∙ ap (total o front n) cut ∙ stops o front n line lines cause e
 
-pub stops_at : (front : List Line) (n : ℕ) (lines here : List (List ℕ)) (line : List ℕ) (cause : Cause) (whole : Result (List Line) Refusal) → here ≡ line ∷ lines
-    → entry_of n (first_thread front) line ≡ Err cause → total front n here ≡ whole → whole ≡ Err (record { cause = cause; line = n })
-stops_at front n lines here line cause whole cut e so_far = sym so_far ∙ ap (total front n) cut ∙ stops front n line lines cause e
+pub ends_at : (o : Options) (front : List Line) (n : ℕ) (here : List (List ℕ)) (whole : Result Script Refusal) → here ≡ [] → total o front n here ≡ whole
+    → whole ≡ Ok (record { options = o; lines = front })
+ends_at o front n here whole cut so_far = sym so_far ∙ ap (total o front n) cut ∙ is_done o front n
 
-pub ends_at : (front : List Line) (n : ℕ) (here : List (List ℕ)) (whole : Result (List Line) Refusal) → here ≡ [] → total front n here ≡ whole → whole ≡ Ok front
-ends_at front n here whole cut so_far = sym so_far ∙ ap (total front n) cut ∙ is_done front n
-
--- what the lines give, as a script
-pub refused_script : (bytes : List ℕ) (r : Refusal) → total [] 1 (lines_of bytes) ≡ Err r → script_of bytes ≡ Err r
-unfolding script_of
-refused_script bytes r e = rw (sym (from_nothing (lines_of bytes)) ∙ e) refl
-
-pub read_script : (bytes : List ℕ) (lines : List Line) → total [] 1 (lines_of bytes) ≡ Ok lines → script_of bytes ≡ Ok (record { options = usual_options; lines = lines })
-unfolding script_of
-read_script bytes lines e = rw (sym (from_nothing (lines_of bytes)) ∙ e) refl
+-- what the error of a line says of the whole
+pub errs_at : (o : Options) (front : List Line) (n : ℕ) (lines here : List (List ℕ)) (line : List ℕ) (err : LineErr) (only : Option ℕ) (bytes : List ℕ) → here ≡ line ∷ lines
+    → first_thread front ≡ only → Gives {X = Entry} (Err err) (entry_of n only line) → total o front n here ≡ script_of bytes → Parses bytes (Err (err_at n err))
+errs_at o front n lines here line (errors.Cause cause) only bytes cut is e so_far =
+    stops_at o front n lines here line cause (script_of bytes) cut (ap (λ t. entry_of n t line) is ∙ e) so_far
+errs_at o front n lines here line errors.NoMemory only bytes cut is e so_far = tt

@@ -1,58 +1,25 @@
 -- What is read is a script of the grammar, and each script of the grammar is read.
-use Rattle.std.proofs.Common.{◌≡◌, ℕ, ◌+◌, ◌≤◌, Bool, true, false, cond, not, nat_lt, List, [], ◌∷◌, length, map, Option, Some, None, Result, Ok, Err, refl, sym, ap, ◌∙◌, subst, arith}
-use Rattle.std.specs.List.{All, cons_option, filter}
-use Rattle.std.specs.Str.{is_utf8}
-use Rattle.std.proofs.lemmas.Bool.{ltb-false, le-ltb}
+use Rattle.std.proofs.Common.{◌≡◌, ℕ, ◌+◌, ◌≤◌, Bool, true, false, cond, nat_lt, List, [], ◌∷◌, length, codes, Option, Some, None, Result, Ok, Err, refl, sym, ap, ◌∙◌, subst, arith}
+use Rattle.std.specs.List.{All}
+use Rattle.std.specs.Str.{bytes_eq, is_utf8}
+use Rattle.std.proofs.lemmas.Bool.{le-ltb}
 use Rattle.std.proofs.lemmas.List.Elements.{All-nil, All-cons, All-head, All-tail}
-use Rattle.std.proofs.lemmas.Str.{IsUtf8-from_is_utf8, is_utf8-from_IsUtf8}
+use Rattle.std.proofs.lemmas.Slice.Eq.{bytes_eq-Decides}
+use Rattle.std.proofs.lemmas.Str.{is_utf8-from_IsUtf8}
 use Rattle.az_words.specs.Lines.{lines_of}
 use Rattle.az_words.specs.Words.{words_of}
-use Rattle.heap_script.specs.declared.cause.Cause.{Cause}
-use Rattle.heap_script.specs.declared.cause.Cause.TheVariants.{NotText, LineTooLong, TooManyLines}
+use Rattle.az_words.specs.Numerals.{numeral_of, number_in}
+use Rattle.heap_script.specs.declared.cause.Cause.TheVariants.{NoThread}
+use Rattle.heap_script.specs.declared.entries.Entry.{Entry}
+use Rattle.heap_script.specs.declared.entries.Entry.TheVariants as entry
 use Rattle.heap_script.specs.declared.line.Line.{Line}
 use Rattle.heap_script.specs.declared.script.Script.{Script}
-use Rattle.heap_script.specs.Reading.{◌>>=◌, line_of, is_skipped, entry_at, entry_of, at_line, thread_after, lines_from, script_of}
-use Rattle.heap_script.specs.Scripts.{AllOf, OneThread}
-use Rattle.heap_script.specs.Grammar.{IsOnly, IsLine, IsFit, call_lines, AreLines, SayLines, IsScript}
-use Rattle.heap_script.specs.Laws.{LinesAreRead}
-use Rattle.heap_script.proofs.Steps.{passed, bind_ok, ok_same}
-use Rattle.heap_script.proofs.Facts.{one_of, at_line_ok}
-
--- the line's words, where it says this
-Shown : Option ℕ → List (List ℕ) → Option Line → Type 0
-Shown only words None = is_skipped words ≡ true
-Shown only words (Some line) = (is_skipped words ≡ false) × (line_of only words ≡ Ok line)
-
-shown_by : (only : Option ℕ) (words : List (List ℕ)) (b : Bool) (read : Result Line Cause) (entry : Option Line) → is_skipped words ≡ b → line_of only words ≡ read
-    → cond b (Ok None) (read >>= λ line. Ok (Some line)) ≡ Ok entry → Shown only words entry
-unfolding Shown
-shown_by only words true read None s r e = s
-shown_by only words true read (Some line) s r e = cc
-shown_by only words false (Ok l) None s r e = cc
-shown_by only words false (Ok l) (Some line) s r e = (s, cc)
-shown_by only words false (Err d) entry s r e = cc
-
--- a line that isn't refused
-record Passes (n : ℕ) (only : Option ℕ) (bytes : List ℕ) (entry : Option Line) : Type 0 where
-  fit : IsFit bytes
-  few : n ≤ 65536
-  says : Shown only (words_of bytes) entry
-
-pub not_not : (b : Bool) → not b ≡ false → b ≡ true
-not_not true e = refl
-not_not false e = cc
-
-entry_ok : (n : ℕ) (only : Option ℕ) (bytes : List ℕ) (entry : Option Line) → entry_of n only bytes ≡ Ok entry → Passes n only bytes entry
-unfolding entry_of
-entry_ok n only bytes entry e =
-    let a = passed (not (is_utf8 bytes)) NotText _ _ e in
-    let b = passed (nat_lt 8192 (length bytes)) LineTooLong _ _ a.1 in
-    let c = passed (nat_lt 65536 n) TooManyLines _ _ b.1 in
-    record {
-      fit = record { text = IsUtf8-from_is_utf8 bytes (not_not (is_utf8 bytes) a.0); short = ltb-false 8192 (length bytes) b.0 };
-      few = ltb-false 65536 n c.0;
-      says = shown_by only (words_of bytes) (is_skipped (words_of bytes)) (line_of only (words_of bytes)) entry refl refl c.1;
-    }
+use Rattle.heap_script.specs.Pieces.{thread_of}
+use Rattle.heap_script.specs.Reading.{next_as, line_at, line_of, is_skipped, option_words, after_option, entry_by, entry_at, entry_of, at_line, thread_after, entries_from, calls_of, script_from, script_of}
+use Rattle.heap_script.specs.Grammar.{IsEntry, IsFit, AreEntries, SayLines, IsScript}
+use Rattle.heap_script.specs.Laws.{LinesAreRead, OptionsAreRead}
+use Rattle.heap_script.proofs.Steps.{bind_ok, ok_same, ok_is_not_err, some_same}
+use Rattle.heap_script.proofs.Facts.{Shown, entry_ok, at_line_ok}
 
 pub entry_from : (n : ℕ) (only : Option ℕ) (bytes : List ℕ) → IsFit bytes → n ≤ 65536 → entry_of n only bytes ≡ entry_at only (words_of bytes)
 unfolding entry_of
@@ -62,117 +29,115 @@ entry_from n only bytes fit few =
     let small : nat_lt 65536 n ≡ false = le-ltb 65536 n few in
     rw (text, short, small) refl
 
-any_thread : (only : Option ℕ) (words : List (List ℕ)) (line : Line) → IsLine only words line → IsLine None words line
-any_thread only words line h = record { first = h.first; others = h.others; spelled = h.spelled; thread = h.thread; same = tt; act = h.act }
+-- the word option, where words come after it
+option_by : (first : List ℕ) (more others : List (List ℕ)) (b : Bool) → bytes_eq first (codes "option") ≡ b → cond b (Some more) None ≡ Some others → first ∷ more ≡ codes "option" ∷ others
+option_by first more others true is e = ap (λ w. w ∷ more) ((bytes_eq-Decides first (codes "option")).0 is) ∙ ap (λ ws. codes "option" ∷ ws) (some_same more others e)
+option_by first more others false is e = cc
 
-this_thread : (only : Option ℕ) (words : List (List ℕ)) (line : Line) → IsOnly only line.thread → IsLine None words line → IsLine only words line
-this_thread only words line same h = record { first = h.first; others = h.others; spelled = h.spelled; thread = h.thread; same = same; act = h.act }
+option_front : (words others : List (List ℕ)) → option_words words ≡ Some others → words ≡ codes "option" ∷ others
+option_front [] others e = cc
+option_front (first ∷ more) others e = option_by first more others (bytes_eq first (codes "option")) refl e
 
--- one line more
-lines_more : (words : List (List ℕ)) (more : List (List (List ℕ))) (b : Bool) → is_skipped words ≡ b → filter (λ ws. not (is_skipped ws)) (words ∷ more) ≡ cond b (filter (λ ws. not (is_skipped ws)) more) (words ∷ filter (λ ws. not (is_skipped ws)) more)
-lines_more words more true e = rw e refl
-lines_more words more false e = rw e refl
+pub after_ok : (only : Option ℕ) (words others : List (List ℕ)) → after_option only words ≡ Some others → (only ≡ None) × (words ≡ codes "option" ∷ others)
+unfolding after_option
+after_ok None words others e = (refl, option_front words others e)
+after_ok (Some only) words others e = cc
 
-are_more : (law : LinesAreRead) → (only : Option ℕ) (piece : List ℕ) (pieces : List (List ℕ)) (entry : Option Line) (lines : List Line) → Shown only (words_of piece) entry
-    → AreLines (call_lines pieces) lines → AreLines (call_lines (piece ∷ pieces)) (cons_option entry lines)
-unfolding Shown
-are_more law only piece pieces None lines s others = rw (lines_more (words_of piece) (map words_of pieces) true s) others
-are_more law only piece pieces (Some line) lines s others =
-    rw (lines_more (words_of piece) (map words_of pieces) false s.0) (any_thread only (words_of piece) line ((law only (words_of piece) line).0 s.1), others)
+-- option is no thread
+no_thread : thread_of (codes "option") ≡ None
+unfolding thread_of number_in numeral_of
+no_thread = refl
+
+no_thread_line : (only : Option ℕ) (others : List (List ℕ)) → line_of only (codes "option" ∷ others) ≡ Err NoThread
+unfolding line_of line_at next_as
+no_thread_line only others = rw no_thread refl
+
+no_option_line : (only : Option ℕ) (others : List (List ℕ)) (line : Line) → line_of only (codes "option" ∷ others) ≡ Ok line → ⊥
+no_option_line only others line e = ok_is_not_err line NoThread (sym e ∙ no_thread_line only others)
+
+calls_by : (only : Option ℕ) (words : List (List ℕ)) (line : Line) (o : Option (List (List ℕ))) → after_option only words ≡ o → line_of only words ≡ Ok line → o ≡ None
+calls_by only words line None a e = refl
+calls_by only words line (Some others) a e = absurd (no_option_line only others line (ap (line_of only) (sym (after_ok only words others a).1) ∙ e))
+
+entry_says : (law : LinesAreRead) → (options : OptionsAreRead) → (only : Option ℕ) (words : List (List ℕ)) (e : Entry) → Shown only words e → IsEntry only words e
+entry_says law options only words entry.Nothing h = h
+entry_says law options only words (entry.Set set) h =
+    let a = after_ok only words h.1 h.2 in
+    (a.0, h.1, a.1, (options h.1 set).0 h.3)
+entry_says law options only words (entry.Call line) h = (h.0, (law only words line).0 h.2)
+
+option_at : (others : List (List ℕ)) → after_option None (codes "option" ∷ others) ≡ Some others
+unfolding after_option
+option_at others = refl
+
+not_skipped : (others : List (List ℕ)) → is_skipped (codes "option" ∷ others) ≡ false
+unfolding is_skipped
+not_skipped others = refl
+
+-- what the words say is read
+said_at : (law : LinesAreRead) → (options : OptionsAreRead) → (only : Option ℕ) (words : List (List ℕ)) (e : Entry) → IsEntry only words e → entry_at only words ≡ Ok e
+unfolding entry_by
+said_at law options only words entry.Nothing h = rw h refl
+said_at law options only words (entry.Set set) h =
+    ap (λ o. entry_at o words) h.0 ∙ ap (entry_at None) h.2 ∙ rw (not_skipped h.1, option_at h.1, (options h.1 set).1 h.3) refl
+said_at law options only words (entry.Call line) h =
+    let read = (law only words line).1 h.1 in
+    rw (h.0, calls_by only words line (after_option only words) refl read, read) refl
 
 -- the lines from here on are read
-record Read (n : ℕ) (pieces : List (List ℕ)) (lines : List Line) : Type 0 where
+record Read (n : ℕ) (only : Option ℕ) (pieces : List (List ℕ)) (entries : List Entry) : Type 0 where
   few : n ≤ 65537 → n + length pieces ≤ 65537
   fit : All IsFit pieces
-  are : AreLines (call_lines pieces) lines
+  says : AreEntries only pieces entries
 
-lines_ok : (law : LinesAreRead) → (n : ℕ) (only : Option ℕ) (pieces : List (List ℕ)) (lines : List Line) → lines_from n only pieces ≡ Ok lines → Read n pieces lines
-unfolding lines_from
-lines_ok law n only [] lines e =
-    let none : AreLines (call_lines []) [] = tt in
-    record { few = λ h. omega arith; fit = All-nil IsFit; are = subst (AreLines (call_lines [])) (ok_same _ lines e) none }
-lines_ok law n only (piece ∷ pieces) lines e =
-    let a = bind_ok (at_line n (entry_of n only piece)) _ lines e in
-    let b = bind_ok (lines_from (n + 1) (thread_after only a.0) pieces) _ lines a.2 in
+lines_ok : (law : LinesAreRead) → (options : OptionsAreRead) → (n : ℕ) (only : Option ℕ) (pieces : List (List ℕ)) (entries : List Entry) → entries_from n only pieces ≡ Ok entries → Read n only pieces entries
+unfolding entries_from
+lines_ok law options n only [] entries e =
+    let none : AreEntries only [] [] = tt in
+    record { few = λ h. omega arith; fit = All-nil IsFit; says = subst (AreEntries only []) (ok_same _ entries e) none }
+lines_ok law options n only (piece ∷ pieces) entries e =
+    let a = bind_ok (at_line n (entry_of n only piece)) _ entries e in
+    let b = bind_ok (entries_from (n + 1) (thread_after only a.0) pieces) _ entries a.2 in
     let first = entry_ok n only piece a.0 (at_line_ok n (entry_of n only piece) a.0 a.1) in
-    let rec = lines_ok law (n + 1) (thread_after only a.0) pieces b.0 b.1 in
+    let rec = lines_ok law options (n + 1) (thread_after only a.0) pieces b.0 b.1 in
     let small : n ≤ 65536 = first.few in
     let counted : n + 1 + length pieces ≤ 65537 = rec.few (omega arith) in
-    record {
-      few = λ h. omega arith;
-      fit = All-cons IsFit piece pieces first.fit rec.fit;
-      are = subst (AreLines (call_lines (piece ∷ pieces))) (ok_same _ lines b.2) (are_more law only piece pieces a.0 b.0 first.says rec.are);
-    }
+    let says : AreEntries only (piece ∷ pieces) (a.0 ∷ b.0) = (entry_says law options only (words_of piece) a.0 first.says, rec.says) in
+    record { few = λ h. omega arith; fit = All-cons IsFit piece pieces first.fit rec.fit; says = subst (AreEntries only (piece ∷ pieces)) (ok_same _ entries b.2) says }
 
-pub said_ok : (law : LinesAreRead) → (pieces : List (List ℕ)) (lines : List Line) → lines_from 1 None pieces ≡ Ok lines → SayLines pieces lines
-said_ok law pieces lines e =
-    let read = lines_ok law 1 None pieces lines e in
+pub said_ok : (law : LinesAreRead) → (options : OptionsAreRead) → (pieces : List (List ℕ)) (entries : List Entry) → entries_from 1 None pieces ≡ Ok entries → SayLines pieces entries
+said_ok law options pieces entries e =
+    let read = lines_ok law options 1 None pieces entries e in
     let counted : 1 + length pieces ≤ 65537 = read.few (omega arith) in
-    record { few = omega arith; fit = read.fit; calls = read.are; one_thread = one_of 1 pieces lines e }
+    record { few = omega arith; fit = read.fit; says = read.says }
 
-pub script_ok : (law : LinesAreRead) → (bytes : List ℕ) (script : Script) → script_of bytes ≡ Ok script → IsScript bytes script
+pub script_ok : (law : LinesAreRead) → (options : OptionsAreRead) → (bytes : List ℕ) (script : Script) → script_of bytes ≡ Ok script → IsScript bytes script
 unfolding script_of
-script_ok law bytes script e =
-    let a = bind_ok (lines_from 1 None (lines_of bytes)) _ script e in
-    subst (IsScript bytes) (ok_same _ script a.2) (record { options = refl; lines = said_ok law (lines_of bytes) a.0 a.1 })
-
--- the lines keep to the thread
-Keeps : Option ℕ → List Line → Type 0
-Keeps None lines = OneThread lines
-Keeps (Some t) lines = AllOf t lines
-
-keeps_first : (only : Option ℕ) (line : Line) (lines : List Line) → Keeps only (line ∷ lines) → IsOnly only line.thread
-unfolding Keeps
-keeps_first None line lines h = tt
-keeps_first (Some t) line lines h = All-head (λ l. l.thread ≡ t) line lines h
-
-keeps_rest : (only : Option ℕ) (line : Line) (lines : List Line) → Keeps only (line ∷ lines) → Keeps (thread_after only (Some line)) lines
-unfolding Keeps
-keeps_rest None line lines h = All-tail (λ l. l.thread ≡ line.thread) line lines h
-keeps_rest (Some t) line lines h = All-tail (λ l. l.thread ≡ t) line lines h
-
-stays : (only : Option ℕ) → thread_after only None ≡ only
-stays None = refl
-stays (Some t) = refl
-
-none_says : (lines : List Line) → AreLines [] lines → lines ≡ []
-none_says [] h = refl
-none_says (line ∷ lines) h = absurd h
+script_ok law options bytes script e =
+    let a = bind_ok (entries_from 1 None (lines_of bytes)) _ script e in
+    subst (IsScript bytes) (ok_same _ script a.2) (record { entries = a.0; said = said_ok law options (lines_of bytes) a.0 a.1; options = refl; lines = refl })
 
 -- reading goes on after a line that says this
-goes_on : (n : ℕ) (only : Option ℕ) (piece : List ℕ) (pieces : List (List ℕ)) (entry : Option Line) (lines : List Line) → entry_of n only piece ≡ Ok entry
-    → lines_from (n + 1) (thread_after only entry) pieces ≡ Ok lines → lines_from n only (piece ∷ pieces) ≡ Ok (cons_option entry lines)
-unfolding lines_from
-goes_on n only piece pieces entry lines first others = rw (first, others) refl
+pub goes_on : (n : ℕ) (only : Option ℕ) (piece : List ℕ) (pieces : List (List ℕ)) (e : Entry) (entries : List Entry) → entry_of n only piece ≡ Ok e
+    → entries_from (n + 1) (thread_after only e) pieces ≡ Ok entries → entries_from n only (piece ∷ pieces) ≡ Ok (e ∷ entries)
+unfolding entries_from
+goes_on n only piece pieces e entries first others = rw (first, others) refl
 
-Reads : ℕ → Option ℕ → List (List ℕ) → Type 0
-Reads n only pieces = (lines : List Line) → AreLines (call_lines pieces) lines → Keeps only lines → lines_from n only pieces ≡ Ok lines
+lines_read : (law : LinesAreRead) → (options : OptionsAreRead) → (n : ℕ) (only : Option ℕ) (pieces : List (List ℕ)) (entries : List Entry) → n + length pieces ≤ 65537 → All IsFit pieces
+    → AreEntries only pieces entries → entries_from n only pieces ≡ Ok entries
+unfolding entries_from
+lines_read law options n only [] [] few fit says = refl
+lines_read law options n only [] (e ∷ entries) few fit says = absurd says
+lines_read law options n only (piece ∷ pieces) [] few fit says = absurd says
+lines_read law options n only (piece ∷ pieces) (e ∷ entries) few fit says =
+    goes_on n only piece pieces e entries (entry_from n only piece (All-head IsFit piece pieces fit) (omega arith) ∙ said_at law options only (words_of piece) e says.0)
+    (lines_read law options (n + 1) (thread_after only e) pieces entries (omega arith) (All-tail IsFit piece pieces fit) says.1)
 
-step_from : (law : LinesAreRead) → (n : ℕ) (only : Option ℕ) (piece : List ℕ) (pieces : List (List ℕ)) (b : Bool) (lines : List Line) → is_skipped (words_of piece) ≡ b
-    → IsFit piece → n ≤ 65536 → ((next : Option ℕ) → Reads (n + 1) next pieces)
-    → AreLines (cond b (call_lines pieces) (words_of piece ∷ call_lines pieces)) lines → Keeps only lines → lines_from n only (piece ∷ pieces) ≡ Ok lines
-unfolding Reads
-step_from law n only piece pieces true lines s fit few rec are keeps =
-    let says : entry_at only (words_of piece) ≡ Ok None = rw s refl in
-    goes_on n only piece pieces None lines (entry_from n only piece fit few ∙ says) (ap (λ t. lines_from (n + 1) t pieces) (stays only) ∙ rec only lines are keeps)
-step_from law n only piece pieces false [] s fit few rec are keeps = absurd are
-step_from law n only piece pieces false (line ∷ lines) s fit few rec are keeps =
-    let read : line_of only (words_of piece) ≡ Ok line = (law only (words_of piece) line).1 (this_thread only (words_of piece) line (keeps_first only line lines keeps) are.0) in
-    let says : entry_at only (words_of piece) ≡ Ok (Some line) = rw (s, read) refl in
-    goes_on n only piece pieces (Some line) lines (entry_from n only piece fit few ∙ says) (rec (thread_after only (Some line)) lines are.1 (keeps_rest only line lines keeps))
+pub said_from : (law : LinesAreRead) → (options : OptionsAreRead) → (pieces : List (List ℕ)) (entries : List Entry) → SayLines pieces entries → entries_from 1 None pieces ≡ Ok entries
+said_from law options pieces entries h = lines_read law options 1 None pieces entries (omega (arith, h.few)) h.fit h.says
 
-lines_read : (law : LinesAreRead) → (n : ℕ) (only : Option ℕ) (pieces : List (List ℕ)) → n + length pieces ≤ 65537 → All IsFit pieces → Reads n only pieces
-unfolding Reads lines_from
-lines_read law n only [] few fit = λ lines are keeps. ap Ok (sym (none_says lines are))
-lines_read law n only (piece ∷ pieces) few fit =
-    λ lines are keeps. step_from law n only piece pieces (is_skipped (words_of piece)) lines refl (All-head IsFit piece pieces fit) (omega arith)
-    (λ next. lines_read law (n + 1) next pieces (omega arith) (All-tail IsFit piece pieces fit))
-    (rw (← lines_more (words_of piece) (map words_of pieces) (is_skipped (words_of piece)) refl) are) keeps
-
-pub said_from : (law : LinesAreRead) → (pieces : List (List ℕ)) (lines : List Line) → SayLines pieces lines → lines_from 1 None pieces ≡ Ok lines
-unfolding Reads Keeps
-said_from law pieces lines h = lines_read law 1 None pieces (omega (arith, h.few)) h.fit lines h.calls h.one_thread
-
-pub script_from : (law : LinesAreRead) → (bytes : List ℕ) (script : Script) → IsScript bytes script → script_of bytes ≡ Ok script
+pub script_from_lines : (law : LinesAreRead) → (options : OptionsAreRead) → (bytes : List ℕ) (script : Script) → IsScript bytes script → script_of bytes ≡ Ok script
 unfolding script_of
-script_from law bytes script h = rw (said_from law (lines_of bytes) script.lines h.lines) (ap (λ o. Ok (record { options = o; lines = script.lines })) (sym h.options))
+script_from_lines law options bytes script h =
+    let same : script_from h.entries ≡ script = ap (λ o. record { options = o; lines = calls_of h.entries }) (sym h.options) ∙ ap (λ ls. record { options = script.options; lines = ls }) (sym h.lines) in
+    rw (said_from law options (lines_of bytes) h.entries h.said) (ap {B = Result Script _} Ok same)

@@ -1,8 +1,8 @@
 -- Readers one after the other
-use Rattle.std.proofs.Common.{◌≡◌, ℕ, ◌⊎◌, inl, inr, Bool, true, false, cond, List, [], ◌∷◌, Option, Some, None, Result, Ok, Err, refl, ap}
+use Rattle.std.proofs.Common.{◌≡◌, ℕ, ◌⊎◌, inl, inr, Bool, true, false, cond, List, [], ◌∷◌, Option, Some, None, Result, Ok, Err, refl, ap, ◌∙◌}
 use Rattle.heap_script.specs.declared.cause.Cause.{Cause}
 use Rattle.heap_script.specs.declared.cause.Cause.TheVariants.{TooManyArguments}
-use Rattle.heap_script.specs.Reading.{◌>>=◌, or_cause, next_as, no_more}
+use Rattle.heap_script.specs.Reading.{◌>>=◌, or_cause, next_as, no_more, whole}
 
 -- a choice that gave a value went this way
 pub chosen : {A : Type 0} (b : Bool) (o : Option A) (x : A) → cond b o None ≡ Some x → (b ≡ true) × (o ≡ Some x)
@@ -34,6 +34,9 @@ ok_same a b e = cc
 pub ok_is_not_err : {A E : Type 0} (x : A) (d : E) → ◌≡◌ {A = Result A E} (Ok x) (Err d) → ⊥
 ok_is_not_err x d e = cc
 
+pub some_same : {A : Type 0} (a b : A) → Some a ≡ Some b → a ≡ b
+some_same a b e = cc
+
 -- where the first word was read
 pub next_ok : {A : Type 0} (read : List ℕ → Option A) (cause : Cause) (words : List (List ℕ)) (x : A × List (List ℕ)) → next_as read cause words ≡ Ok x
     → (word : List ℕ) × (words ≡ word ∷ x.1) × (read word ≡ Some x.0)
@@ -63,3 +66,34 @@ pub no_more_err : (words : List (List ℕ)) (d : Cause) → no_more words ≡ Er
 unfolding no_more
 no_more_err [] d e = cc
 no_more_err (w ∷ words) d e = cc
+
+-- some words are left
+abbrev pub MoreLeft : List (List ℕ) → Type 0
+MoreLeft left = (word : List ℕ) × (others : List (List ℕ)) × (left ≡ word ∷ others)
+
+pub some_left : (words : List (List ℕ)) (d : Cause) → no_more words ≡ Err d → MoreLeft words
+unfolding no_more
+some_left [] d e = cc
+some_left (word ∷ words) d e = (word, words, refl)
+
+-- all was read, and no word was left
+pub whole_ok : {A : Type 0} (read : Result (A × List (List ℕ)) Cause) (x : A) → whole read ≡ Ok x → read ≡ Ok (x, [])
+whole_ok {A} read x e =
+    let a = bind_ok read _ x e in
+    let b = bind_ok (no_more a.0.1) _ x a.2 in
+    a.1 ∙ ap {B = Result (A × List (List ℕ)) Cause} (λ y. Ok (y, a.0.1)) (ok_same _ x b.2) ∙ ap {B = Result (A × List (List ℕ)) Cause} (λ left. Ok (x, left)) (no_more_ok a.0.1 b.0 b.1)
+
+-- nothing was read, or a word was left
+pub whole_err : {A : Type 0} (read : Result (A × List (List ℕ)) Cause) (d : Cause) → whole read ≡ Err d
+    → (read ≡ Err d) ⊎ ((TooManyArguments ≡ d) × (x : A) × (word : List ℕ) × (others : List (List ℕ)) × (read ≡ Ok (x, word ∷ others)))
+whole_err {A} read d e =
+    elim (bind_err read _ d e) [
+      | inl h ↦ inl h
+      | inr a ↦
+          elim (bind_err (no_more a.0.1) _ d a.2) [
+            | inl h ↦
+                (let m = some_left a.0.1 d h in
+                inr (no_more_err a.0.1 d h, a.0.0, m.0, m.1, a.1 ∙ ap {B = Result (A × List (List ℕ)) Cause} (λ left. Ok (a.0.0, left)) m.2))
+            | inr b ↦ absurd (ok_is_not_err _ d b.2)
+          ]
+    ]

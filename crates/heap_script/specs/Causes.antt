@@ -1,6 +1,10 @@
--- The names of causes
+-- The names of causes, and errors of lines as those of scripts
 use Rattle.std.specs.Prelude.{List, ℕ, codes}
 use Rattle.heap_script.specs.declared.cause.Cause.{Cause}
+use Rattle.heap_script.specs.declared.cause.LineErr.{LineErr}
+use Rattle.heap_script.specs.declared.cause.LineErr.TheVariants as lines
+use Rattle.heap_script.specs.declared.cause.ScriptErr.{ScriptErr}
+use Rattle.heap_script.specs.declared.cause.ScriptErr.TheVariants as scripts
 use Rattle.heap_script.specs.declared.cause.Cause.TheVariants.{NotText, LineTooLong, TooManyLines, NoThread, NoCall, WrongArgument, TooManyArguments}
 
 -- how messages name a cause
@@ -12,3 +16,8 @@ cause_text NoThread = codes "NoThread"
 cause_text NoCall = codes "NoCall"
 cause_text WrongArgument = codes "WrongArgument"
 cause_text TooManyArguments = codes "TooManyArguments"
+
+-- the error of a script in which the line of this number has this one
+abbrev pub err_at : ℕ → LineErr → ScriptErr
+err_at n (lines.Cause cause) = scripts.Refused cause n
+err_at n lines.NoMemory = scripts.NoMemory

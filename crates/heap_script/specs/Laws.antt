@@ -1,10 +1,11 @@
 -- What is read of a script, said apart from how
-use Rattle.std.specs.Prelude.{◌≡◌, ◌↔◌, ℕ, List, Option, Ok, Err}
+use Rattle.std.specs.Prelude.{◌≡◌, ◌↔◌, ℕ, List, [], Option, Ok, Err}
 use Rattle.heap_script.specs.declared.cause.Cause.{Cause}
 use Rattle.heap_script.specs.declared.line.Line.{Line}
 use Rattle.heap_script.specs.declared.script.Script.{Script}
-use Rattle.heap_script.specs.Reading.{Refusal, line_of, script_of}
-use Rattle.heap_script.specs.Grammar.{IsLine, LineCause, IsScript, IsRefused}
+use Rattle.heap_script.specs.declared.setting.Setting.{Setting}
+use Rattle.heap_script.specs.Reading.{Refusal, line_of, setting_of, script_of}
+use Rattle.heap_script.specs.Grammar.{IsLine, LineCause, SettingAt, SettingCause, IsScript, IsRefused}
 
 -- exactly the call lines of the grammar are read, each as what it says
 abbrev pub LinesAreRead : Type 0
@@ -13,6 +14,14 @@ LinesAreRead = (only : Option ℕ) (words : List (List ℕ)) (line : Line) → (
 -- a call line is refused exactly where it lacks what the grammar wants, with that cause
 abbrev pub LinesAreRefused : Type 0
 LinesAreRefused = (only : Option ℕ) (words : List (List ℕ)) (cause : Cause) → (line_of only words ≡ Err cause) ↔ LineCause only words cause
+
+-- after option exactly an option and a number in its range are read
+abbrev pub OptionsAreRead : Type 0
+OptionsAreRead = (words : List (List ℕ)) (set : Setting) → (setting_of words ≡ Ok set) ↔ SettingAt words set []
+
+-- an option line is refused exactly where it lacks what the grammar wants, with that cause
+abbrev pub OptionsAreRefused : Type 0
+OptionsAreRefused = (words : List (List ℕ)) (cause : Cause) → (setting_of words ≡ Err cause) ↔ SettingCause words cause
 
 -- exactly the scripts of the grammar are read, each as what it says
 abbrev pub ScriptsAreRead : Type 0

@@ -1,6 +1,9 @@
 pub mod Causes
 pub mod Names
+pub mod Settings
 pub mod Pieces
+pub mod Built
+pub mod Arguments
 pub mod Reading
 pub mod Scripts
 pub mod Grammar

@@ -1,7 +1,5 @@
 -- What parse answers, and what is known of a script
 use Rattle.std.specs.Prelude.{◌≡◌, ℕ, List, [], ◌∷◌, All, Result, Ok, Err}
-use Rattle.block_layouts.specs.declared.layout.Shape.{Shape}
-use Rattle.block_layouts.specs.declared.layout.Shape.TheVariants as shape
 use Rattle.zone_model.specs.declared.act.Act.{Act}
 use Rattle.zone_model.specs.declared.act.Act.TheVariants as act
 use Rattle.zone_model.specs.declared.call.Call.TheVariants as call
@@ -20,17 +18,21 @@ abbrev pub OneThread : List Line → Type 0
 OneThread [] = Unit {0}
 OneThread (line ∷ lines) = AllOf line.thread (line ∷ lines)
 
--- memory that is scanned
-abbrev pub IsScanned : Shape → Type 0
-IsScanned (shape.Scanned n) = Unit {0}
-IsScanned _ = ⊥
-
--- a new block of scanned memory, with no action: what can be written so far
+-- what the names that are built can ask for
 abbrev pub IsBuilt : Act → Type 0
-IsBuilt (act.Call (call.New to layout actions)) = IsScanned layout × (actions ≡ [])
+IsBuilt (act.Call (call.New to layout actions)) = Unit {0}
+IsBuilt (act.Call (call.Load to from at)) = Unit {0}
+IsBuilt (act.Call (call.Store into at from)) = Unit {0}
+IsBuilt (act.Call (call.Put into at number)) = Unit {0}
+IsBuilt (act.Call (call.Get from at)) = Unit {0}
+IsBuilt (act.Call (call.Copy to from)) = Unit {0}
+IsBuilt (act.Call (call.DropReg reg)) = Unit {0}
+IsBuilt (act.Call (call.SetRoot root from)) = Unit {0}
+IsBuilt (act.Call (call.GetRoot to root)) = Unit {0}
+IsBuilt (act.Call call.Stats) = Unit {0}
 IsBuilt _ = ⊥
 
--- each line's act is one that can be written
+-- each line asks for what is built
 abbrev pub AllBuilt : List Line → Type 0
 AllBuilt lines = All (λ line. IsBuilt line.act) lines
 

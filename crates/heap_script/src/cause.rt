@@ -1,5 +1,6 @@
 //! Why bytes are no script.
 ghost use Rattle.std.specs.Prelude.{◌≡◌};
+ghost use Rattle.heap_script.specs.Causes.{err_at};
 ghost use Rattle.heap_script.specs.declared.cause.ScriptErr.TheVariants.{NoMemory};
 
 use std::alloc::{AllocError, AllocFailed};
@@ -15,9 +16,9 @@ pub enum Cause {
     LineTooLong,
     /// The line's number is 65,537.
     TooManyLines,
-    /// The first word is no numeral 1 to 16.
+    /// The first word is no numeral 1 to 16, and doesn't begin an option line.
     NoThread,
-    /// The second word is missing, or names no call.
+    /// The second word is missing, or names no call; in an option line, no option.
     NoCall,
     /// An argument is missing, or hasn't its form or range; or the thread isn't that of the first call line.
     WrongArgument,
@@ -42,6 +43,55 @@ impl fmt::Display for Cause {
             Cause::WrongArgument => write!(f, "WrongArgument"),
             Cause::TooManyArguments => write!(f, "TooManyArguments"),
         }
+    }
+}
+
+/// Why a line was not read.
+#[derive(Clone, Copy, Debug, PartialEq, Eq)]
+pub enum LineErr {
+    Cause(Cause),
+    NoMemory,
+}
+
+impl LineErr {
+    /// The same of the whole script, whose line has this number.
+    pub fn at_line(self, line: u32) -> ScriptErr
+        ensures { result ≡ err_at line self }
+    {
+        match self {
+            LineErr::Cause(cause) => ScriptErr::Refused { cause, line },
+            LineErr::NoMemory => ScriptErr::NoMemory,
+        }
+    }
+}
+
+impl From<Cause> for LineErr {
+    ghost use Rattle.heap_script.specs.declared.cause.LineErr.{LineErr};
+
+    ghost from_gives = { λ cause e. e ≡ LineErr.Cause cause };
+
+    fn from(cause: Cause) -> LineErr {
+        LineErr::Cause(cause)
+    }
+}
+
+impl From<AllocError> for LineErr {
+    ghost use Rattle.heap_script.specs.declared.cause.LineErr.{LineErr};
+
+    ghost from_gives = { λ _ e. e ≡ LineErr.NoMemory };
+
+    fn from(_e: AllocError) -> LineErr {
+        LineErr::NoMemory
+    }
+}
+
+impl<T: Drop> From<AllocFailed<T>> for LineErr {
+    ghost use Rattle.heap_script.specs.declared.cause.LineErr.{LineErr};
+
+    ghost from_gives = { λ _ e. e ≡ LineErr.NoMemory };
+
+    fn from(_e: AllocFailed<T>) -> LineErr {
+        LineErr::NoMemory
     }
 }
 

@@ -1,22 +1,32 @@
 //! What a line says.
-ghost use Rattle.std.specs.Prelude.{◌≡◌, ◌≤◌, IfOk};
+ghost use Rattle.std.specs.Prelude.{◌≡◌, ◌≤◌, IfOk, IfSome, IfNone, Some, None};
 ghost use Rattle.az_words.specs.Words.{words_of};
-ghost use Rattle.heap_script.specs.Reading.{same_thread, line_of, is_skipped, entry_of};
+ghost use Rattle.heap_script.specs.Reading.{Gives, same_thread, line_of, setting_of, is_skipped, after_option, entry_by, entry_of};
 
 use crate::calls::arguments;
-use crate::cause::Cause;
+use crate::cause::{Cause, LineErr};
 use crate::line::Line;
-use crate::pieces::{next_name, next_thread};
+use crate::pieces::{next_name, next_number, next_option, next_thread, next_wide_number, no_more};
+use crate::setting::{OptionName, Setting};
 use az_base::ThreadNo;
-use az_words::{Words, is_text, next_word};
+use az_words::{Words, is_text, is_word, next_word};
+use std::alloc::Global;
 
 /// The most bytes of a line, its line feed not counted.
-const MOST_BYTES: usize = 8_192;
+const MOST_BYTES: usize = 8192;
 
 /// The most lines of a script.
 const MOST_LINES: u32 = 65_536;
 
-/// Refuses a thread other than that of the call lines before.
+/// What a line says: nothing where it is skipped, an option, or a call.
+#[derive(Debug, Drop)]
+pub enum Entry {
+    Nothing,
+    Set(Setting),
+    Call(Line),
+}
+
+/// A thread is the only one so far.
 fn same_thread(only: Option<ThreadNo>, thread: ThreadNo) -> Result<(), Cause>
     ensures { result ≡ same_thread only thread }
 {
@@ -33,19 +43,54 @@ fn same_thread(only: Option<ThreadNo>, thread: ThreadNo) -> Result<(), Cause>
 }
 
 /// A call line, after call lines of this thread.
-#[tactic(auto, unfolding(crate::specs::Reading::line_of))]
-fn call_line(only: Option<ThreadNo>, line: &[u8]) -> Result<Line, Cause>
-    ensures { result ≡ line_of only (words_of line.now) }
+#[tactic(auto, unfolding(crate::specs::Reading::line_of, crate::specs::Reading::line_at))]
+fn call_line(alloc: Global, only: Option<ThreadNo>, line: &[u8]) -> Result<Line, LineErr>
+    ensures { Gives result (line_of only (words_of line.now)) }
 {
     let mut words = Words::new(line);
     let thread = next_thread(&mut words)?;
     let name = next_name(&mut words)?;
     same_thread(only, thread)?;
-    let act = arguments(name, &mut words)?;
+    let act = arguments(alloc, name, &mut words)?;
+    no_more(&mut words)?;
     Ok(Line { thread, act })
 }
 
-/// Whether the line has no word, or its first word begins with `#`.
+/// An option and a number in its range.
+#[tactic(auto, unfolding(crate::specs::Reading::setting_of))]
+fn setting(line: &[u8]) -> Result<Setting, Cause>
+    ensures { result ≡ setting_of (words_of line.now) }
+{
+    let mut words = Words::new(line);
+    let setting = match next_option(&mut words)? {
+        OptionName::Heap => Setting::Heap(next_number(1, 1_048_576, &mut words)?),
+        OptionName::Local => Setting::Local(next_number(0, 65_536, &mut words)?),
+        OptionName::Serials => Setting::Serials(next_wide_number(1, 4_294_967_296, &mut words)?),
+        OptionName::Counts => Setting::Counts(next_number(1, u32::MAX, &mut words)?),
+        OptionName::Pending => Setting::Pending(next_number(1, 4_096, &mut words)?),
+    };
+    no_more(&mut words)?;
+    Ok(setting)
+}
+
+/// What comes after `option`, where it begins the line and no call line came before.
+#[tactic(auto, unfolding(crate::specs::Reading::after_option))]
+fn after_option<'a>(only: &Option<ThreadNo>, line: &'a [u8]) -> Option<&'a [u8]>
+    ensures some { IfSome result (λ rest. after_option only.now (words_of line.now) ≡ Some (words_of rest.now)) }
+    ensures none { IfNone result (after_option only.now (words_of line.now) ≡ None) }
+{
+    if only.is_some() {
+        return None;
+    }
+    let (first, rest) = next_word(line)?;
+    if is_word(first, b"option") {
+        Some(rest)
+    } else {
+        None
+    }
+}
+
+/// The line has no word, or its first word begins with `#`.
 #[tactic(auto, unfolding(crate::specs::Reading::is_skipped))]
 fn is_skipped(line: &[u8]) -> bool
     ensures { result ≡ is_skipped (words_of line.now) }
@@ -57,24 +102,45 @@ fn is_skipped(line: &[u8]) -> bool
     }
 }
 
-/// What the line of this number says, after call lines of this thread; nothing where it is skipped. O(bytes).
+/// An option line where option lines may still stand, and else a call line.
+#[tactic(auto, unfolding(crate::specs::Reading::entry_by))]
+fn option_or_call(alloc: Global, only: Option<ThreadNo>, line: &[u8]) -> Result<Entry, LineErr>
+    ensures { Gives result (entry_by only (words_of line.now) (after_option only (words_of line.now))) }
+{
+    match after_option(&only, line) {
+        Some(rest) => {
+            let setting = setting(rest)?;
+            Ok(Entry::Set(setting))
+        }
+        None => {
+            let line = call_line(alloc, only, line)?;
+            Ok(Entry::Call(line))
+        }
+    }
+}
+
+/// What the line of this number says, after call lines of this thread. O(bytes).
 #[tactic(auto, unfolding(crate::specs::Reading::entry_of))]
-pub fn entry(number: u32, only: Option<ThreadNo>, line: &[u8]) -> Result<Option<Line>, Cause>
-    ensures says { result ≡ entry_of number only line.now }
+pub fn read_entry(
+    alloc: Global,
+    number: u32,
+    only: Option<ThreadNo>,
+    line: &[u8],
+) -> Result<Entry, LineErr>
+    ensures says { Gives result (entry_of number only line.now) }
     ensures few { IfOk result (λ _. number ≤ 65536) }
 {
     if !is_text(line) {
-        return Err(Cause::NotText);
+        return Err(LineErr::Cause(Cause::NotText));
     }
     if line.len() > MOST_BYTES {
-        return Err(Cause::LineTooLong);
+        return Err(LineErr::Cause(Cause::LineTooLong));
     }
     if number > MOST_LINES {
-        return Err(Cause::TooManyLines);
+        return Err(LineErr::Cause(Cause::TooManyLines));
     }
     if is_skipped(line) {
-        return Ok(None);
+        return Ok(Entry::Nothing);
     }
-    let line = call_line(only, line)?;
-    Ok(Some(line))
+    option_or_call(alloc, only, line)
 }

@@ -1,6 +1,6 @@
 //! Laws that say what is read apart from how: exactly the scripts of the grammar are read, and all else is refused at the
 //! first line that lacks what the grammar wants.
-ghost use Rattle.heap_script.specs.Laws.{LinesAreRead, LinesAreRefused, ScriptsAreRead, ScriptsAreRefused};
+ghost use Rattle.heap_script.specs.Laws.{LinesAreRead, LinesAreRefused, OptionsAreRead, OptionsAreRefused, ScriptsAreRead, ScriptsAreRefused};
 
 use az_words::numbers_are_read;
 
@@ -18,11 +18,26 @@ pub fn lines_are_refused()
     numbers_are_read();
 }
 
+/// After the word `option` exactly an option and a number in its range are read.
+pub fn options_are_read()
+    ensures { OptionsAreRead }
+{
+    numbers_are_read();
+}
+
+/// An option line is refused exactly where it lacks what the grammar wants, with that cause.
+pub fn options_are_refused()
+    ensures { OptionsAreRefused }
+{
+    numbers_are_read();
+}
+
 /// Exactly the scripts of the grammar are read, each as what it says.
 pub fn scripts_are_read()
     ensures { ScriptsAreRead }
 {
     lines_are_read();
+    options_are_read();
 }
 
 /// Bytes are refused exactly at their first line that has a cause, with the first one of that line.
@@ -31,4 +46,6 @@ pub fn scripts_are_refused()
 {
     lines_are_read();
     lines_are_refused();
+    options_are_read();
+    options_are_refused();
 }

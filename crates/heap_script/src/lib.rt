@@ -6,20 +6,27 @@
 //! `Cause`: so each reader names the cause that stands where its word is missing or wrong.
 #![tactic(auto)]
 
+mod built;
 mod call_name;
 mod calls;
 mod cause;
 mod entries;
+mod keywords;
 mod laws;
 mod line;
+mod memory;
 mod pieces;
 mod reading;
 mod script;
+mod setting;
 #[cfg(test)]
 mod tests;
 
 pub use cause::{Cause, ScriptErr};
-pub use laws::{lines_are_read, lines_are_refused, scripts_are_read, scripts_are_refused};
+pub use laws::{
+    lines_are_read, lines_are_refused, options_are_read, options_are_refused, scripts_are_read,
+    scripts_are_refused,
+};
 pub use line::{Line, LineList};
 pub use reading::parse;
 pub use script::Script;

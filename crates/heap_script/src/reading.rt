@@ -1,11 +1,11 @@
 //! Reading a script, line by line.
 ghost use Rattle.std.specs.Prelude.{◌≡◌, IfOk};
-ghost use Rattle.az_base.specs.OptionRanges.{usual_options};
+ghost use Rattle.az_base.specs.OptionRanges.{IsValid};
 ghost use Rattle.heap_script.specs.Reading.{first_thread};
 ghost use Rattle.heap_script.specs.Scripts.{Parses, OneThread, AllBuilt};
 
 use crate::cause::ScriptErr;
-use crate::entries::entry;
+use crate::entries::{Entry, read_entry};
 use crate::line::{Line, LineList};
 use crate::script::Script;
 use az_base::{Options, ThreadNo};
@@ -26,29 +26,26 @@ fn first_thread(lines: &[Line]) -> Option<ThreadNo>
 /// first cause of that line. A last line needs no line feed. O(bytes).
 pub fn parse(alloc: Global, bytes: &[u8]) -> Result<Script, ScriptErr>
     ensures gives { Parses bytes.now result }
-    ensures options { IfOk result (λ script. script.options ≡ usual_options) }
+    ensures options { IfOk result (λ script. IsValid script.options) }
     ensures one_thread { IfOk result (λ script. OneThread script.lines) }
     ensures built { IfOk result (λ script. AllBuilt script.lines) }
 {
+    let mut options = Options::usual();
     let mut lines = Vec::new(alloc);
     let mut number = 0u32;
     let mut rest = bytes;
     'lines: while let Some((line, after)) = next_line(rest) {
         number += 1;
-        match entry(number, first_thread(&lines), line) {
-            Ok(None) => {}
-            Ok(Some(line)) => lines.push(line)?,
-            Err(cause) => {
-                return Err(ScriptErr::Refused {
-                    cause,
-                    line: number,
-                });
-            }
+        match read_entry(alloc, number, first_thread(&lines), line) {
+            Ok(Entry::Nothing) => {}
+            Ok(Entry::Set(setting)) => options = setting.onto(options),
+            Ok(Entry::Call(line)) => lines.push(line)?,
+            Err(err) => return Err(err.at_line(number)),
         }
         rest = after;
     }
     Ok(Script {
-        options: Options::usual(),
+        options,
         lines: LineList::from_vec(lines),
     })
 }

@@ -1,4 +1,12 @@
 use super::*;
+use crate::call_name::call_name;
+use crate::calls::arguments;
+use crate::cause::LineErr;
+use crate::keywords::LayoutName;
+use crate::memory::memory;
+use crate::pieces::no_more;
+use az_base::Options;
+use az_words::Words;
 use std::test::Fail;
 use zone_model::Call;
 
@@ -61,7 +69,6 @@ fn causes_stand_in_order(rt: HostRuntime) -> Result<(), Fail> {
             Cause::NoThread,
             1,
         ),
-        (b"option heap 5".as_slice(), Cause::NoThread, 1),
         (b"\r\n".as_slice(), Cause::NoThread, 1),
         (b"\xc2\xa01 new r0 scanned 0".as_slice(), Cause::NoThread, 1),
         (b"1".as_slice(), Cause::NoCall, 1),
@@ -69,6 +76,10 @@ fn causes_stand_in_order(rt: HostRuntime) -> Result<(), Fail> {
         (b"1 New r0 scanned 0".as_slice(), Cause::NoCall, 1),
         (b"1 # new r0 scanned 0".as_slice(), Cause::NoCall, 1),
         (b"1 collect young".as_slice(), Cause::NoCall, 1),
+        (b"1 collect".as_slice(), Cause::NoCall, 1),
+        (b"1 retain r0".as_slice(), Cause::NoCall, 1),
+        (b"1 begin young".as_slice(), Cause::NoCall, 1),
+        (b"1 leave".as_slice(), Cause::NoCall, 1),
         (b"1 new".as_slice(), Cause::WrongArgument, 1),
         (b"1 new r scanned 0".as_slice(), Cause::WrongArgument, 1),
         (b"1 new 0 scanned 0".as_slice(), Cause::WrongArgument, 1),
@@ -77,7 +88,13 @@ fn causes_stand_in_order(rt: HostRuntime) -> Result<(), Fail> {
             Cause::WrongArgument,
             1,
         ),
-        (b"1 new r0 unscanned 0".as_slice(), Cause::WrongArgument, 1),
+        (b"1 new r0 Scanned 0".as_slice(), Cause::WrongArgument, 1),
+        (b"1 new r0 object".as_slice(), Cause::WrongArgument, 1),
+        (
+            b"1 new r0 scanned 0 keep g1".as_slice(),
+            Cause::TooManyArguments,
+            1,
+        ),
         (b"1 new r0 scanned".as_slice(), Cause::WrongArgument, 1),
         (b"1 new r0 scanned 4097".as_slice(), Cause::WrongArgument, 1),
         (
@@ -106,6 +123,232 @@ fn causes_stand_in_order(rt: HostRuntime) -> Result<(), Fail> {
             Cause::TooManyArguments,
             1,
         ),
+    ] {
+        assert_eq!(rt; outcome(&rt, bytes)?, Err((cause, line)));
+    }
+    Ok(())
+}
+
+/// The cause of a call with its arguments, without the thread and whether or not the call is built.
+fn cause_of(rt: &HostRuntime, line: &[u8]) -> Result<Option<Cause>, Fail> {
+    let mut words = Words::new(line);
+    let Some(word) = words.next() else {
+        return Ok(Some(Cause::NoCall));
+    };
+    let Some(name) = call_name(word) else {
+        return Ok(Some(Cause::NoCall));
+    };
+    match arguments(rt.alloc(), name, &mut words) {
+        Ok(_) => Ok(no_more(&mut words).err()),
+        Err(LineErr::Cause(cause)) => Ok(Some(cause)),
+        Err(LineErr::NoMemory) => Err(Fail::from("no memory")),
+    }
+}
+
+#[test]
+fn every_call_has_its_arguments(rt: HostRuntime) -> Result<(), Fail> {
+    for line in [
+        b"load r0 r15 4294967295".as_slice(),
+        b"store r1 0 r2".as_slice(),
+        b"put r1 2 18446744073709551615".as_slice(),
+        b"get r1 00".as_slice(),
+        b"copy r1 r1".as_slice(),
+        b"drop r015".as_slice(),
+        b"collect local".as_slice(),
+        b"collect young".as_slice(),
+        b"collect\tfull ".as_slice(),
+        b"setroot g255 r0".as_slice(),
+        b"getroot r0 g0".as_slice(),
+        b"retain r0".as_slice(),
+        b"release r0".as_slice(),
+        b"count r0".as_slice(),
+        b"take r0 16.4294967295".as_slice(),
+        b"take r0 01.00".as_slice(),
+        b"setassoc r0 k255 r1".as_slice(),
+        b"getassoc r0 r1 k0".as_slice(),
+        b"setweak w255 r0".as_slice(),
+        b"setweak r0 1 r2".as_slice(),
+        b"readweak r0 w0".as_slice(),
+        b"readweak r0 r1 7".as_slice(),
+        b"stats".as_slice(),
+    ] {
+        assert_eq!(rt; cause_of(&rt, line)?, None);
+    }
+    Ok(())
+}
+
+#[test]
+fn arguments_are_refused(rt: HostRuntime) -> Result<(), Fail> {
+    let wrong = Some(Cause::WrongArgument);
+    let too_many = Some(Cause::TooManyArguments);
+    for (line, cause) in [
+        (b"load r0 r1".as_slice(), wrong),
+        (b"load r0 1 r1".as_slice(), wrong),
+        (b"load r0 r1 4294967296".as_slice(), wrong),
+        (b"load r0 r1 0 0".as_slice(), too_many),
+        (b"put r1 2 18446744073709551616".as_slice(), wrong),
+        (b"put r1 2 000000000000000000001".as_slice(), wrong),
+        (b"collect".as_slice(), wrong),
+        (b"collect all".as_slice(), wrong),
+        (b"collect full full".as_slice(), too_many),
+        (b"setroot g".as_slice(), wrong),
+        (b"setroot g256 r0".as_slice(), wrong),
+        (b"setroot w1 r0".as_slice(), wrong),
+        (b"take r0 1".as_slice(), wrong),
+        (b"take r0 1.".as_slice(), wrong),
+        (b"take r0 .1".as_slice(), wrong),
+        (b"take r0 0.1".as_slice(), wrong),
+        (b"take r0 17.1".as_slice(), wrong),
+        (b"take r0 1.4294967296".as_slice(), wrong),
+        (b"take r0 1.2.3".as_slice(), wrong),
+        (b"take r0 1 .2".as_slice(), wrong),
+        (b"setassoc r0 5 r1".as_slice(), wrong),
+        (b"setweak w256 r0".as_slice(), wrong),
+        (b"setweak r0 r1".as_slice(), wrong),
+        (b"setweak w0 1 r0".as_slice(), wrong),
+        (b"readweak r0 r1".as_slice(), wrong),
+        (b"readweak r0 w1 0".as_slice(), too_many),
+        (b"stats now".as_slice(), too_many),
+        (b"mark".as_slice(), Some(Cause::NoCall)),
+        (b"Stats".as_slice(), Some(Cause::NoCall)),
+        (b"stats\r".as_slice(), Some(Cause::NoCall)),
+    ] {
+        assert_eq!(rt; cause_of(&rt, line)?, cause);
+    }
+    Ok(())
+}
+
+/// The numbers of words and of actions that the words after `object` say, and whether a word is left; or their cause.
+fn object_of(rt: &HostRuntime, line: &[u8]) -> Result<Result<(u32, usize, bool), Cause>, Fail> {
+    let mut words = Words::new(line);
+    match memory(rt.alloc(), LayoutName::Object, &mut words) {
+        Ok((layout, actions)) => Ok(Ok((layout.len(), actions.len(), words.next().is_some()))),
+        Err(LineErr::Cause(cause)) => Ok(Err(cause)),
+        Err(LineErr::NoMemory) => Err(Fail::from("no memory")),
+    }
+}
+
+#[test]
+fn objects_have_actions(rt: HostRuntime) -> Result<(), Fail> {
+    let wrong = Err(Cause::WrongArgument);
+    let eight =
+        b"P keep g0 keep g1 keep g2 keep g3 pass g4 0 pass g5 1 pass g6 2 pass g7 4294967295";
+    for (line, wanted) in [
+        (b"SWP".as_slice(), Ok((3, 0, false))),
+        (b"SSWP keep g9".as_slice(), Ok((4, 1, false))),
+        (b"S more keep g9".as_slice(), Ok((1, 0, true))),
+        (b"S pass g1 0 Keep g2".as_slice(), Ok((1, 1, true))),
+        (b"".as_slice(), wrong),
+        (b"SXP".as_slice(), wrong),
+        (b"swp".as_slice(), wrong),
+        (b"S\xc3\xa9".as_slice(), wrong),
+        (b"S keep".as_slice(), wrong),
+        (b"S keep 9".as_slice(), wrong),
+        (b"S keep g1 pass g2".as_slice(), wrong),
+        (b"S pass g2 g3".as_slice(), wrong),
+        (eight.as_slice(), Ok((1, 8, false))),
+    ] {
+        assert_eq!(rt; object_of(&rt, line)?, wanted);
+    }
+    for ninth in [
+        b" keep g8".as_slice(),
+        b" keep".as_slice(),
+        b" pass g1".as_slice(),
+    ] {
+        let mut line = Vec::from_slice(rt.alloc(), eight.as_slice())?;
+        line.extend_from_slice(ninth)?;
+        assert_eq!(rt; object_of(&rt, &line)?, Ok((1, 8, true)));
+    }
+    for (letters, wanted) in [(4096, Ok((4096, 0, false))), (4097, wrong)] {
+        let line = vec![in rt.alloc(); b'S'; letters]?;
+        assert_eq!(rt; object_of(&rt, &line)?, wanted);
+    }
+    Ok(())
+}
+
+#[test]
+fn options_are_set(rt: HostRuntime) -> Result<(), Fail> {
+    let usual = Options::usual();
+    for (bytes, options) in [
+        (b"".as_slice(), usual),
+        (
+            b"option heap 1\n1 new r0 scanned 0".as_slice(),
+            Options {
+                heap_quanta: 1,
+                ..usual
+            },
+        ),
+        (
+            b"option local 0\noption serials 1\n".as_slice(),
+            Options {
+                local_quanta: 0,
+                serials: 1,
+                ..usual
+            },
+        ),
+        (
+            b"option counts 1\n#\n\t option\t pending 000000000000000001".as_slice(),
+            Options {
+                counts: 1,
+                pending: 1,
+                ..usual
+            },
+        ),
+        (
+            b"option pending 7\noption heap 9\noption pending 8\n".as_slice(),
+            Options {
+                heap_quanta: 9,
+                pending: 8,
+                ..usual
+            },
+        ),
+        (
+            b"option heap 1048576\noption local 65536\noption serials 4294967296\noption counts 4294967295\noption pending 4096".as_slice(),
+            usual,
+        ),
+    ] {
+        let script = parse(rt.alloc(), bytes)?;
+        assert_eq!(rt; script.options, options);
+    }
+    Ok(())
+}
+
+#[test]
+fn options_are_refused(rt: HostRuntime) -> Result<(), Fail> {
+    for (bytes, cause, line) in [
+        (b"Option heap 1".as_slice(), Cause::NoThread, 1),
+        (
+            b"1 new r0 scanned 0\noption heap 1".as_slice(),
+            Cause::NoThread,
+            2,
+        ),
+        (b"option".as_slice(), Cause::NoCall, 1),
+        (b"option size 1".as_slice(), Cause::NoCall, 1),
+        (b"option Heap 1".as_slice(), Cause::NoCall, 1),
+        (b"option heap".as_slice(), Cause::WrongArgument, 1),
+        (b"option heap r1".as_slice(), Cause::WrongArgument, 1),
+        (b"option heap 0".as_slice(), Cause::WrongArgument, 1),
+        (b"option heap 1048577 x".as_slice(), Cause::WrongArgument, 1),
+        (b"option local 65537".as_slice(), Cause::WrongArgument, 1),
+        (b"option serials 0".as_slice(), Cause::WrongArgument, 1),
+        (
+            b"option serials 4294967297".as_slice(),
+            Cause::WrongArgument,
+            1,
+        ),
+        (b"option counts 0".as_slice(), Cause::WrongArgument, 1),
+        (
+            b"option counts 4294967296".as_slice(),
+            Cause::WrongArgument,
+            1,
+        ),
+        (
+            b"option pending 4096\noption pending 0".as_slice(),
+            Cause::WrongArgument,
+            2,
+        ),
+        (b"option pending 4097".as_slice(), Cause::WrongArgument, 1),
+        (b"option heap 1 2".as_slice(), Cause::TooManyArguments, 1),
     ] {
         assert_eq!(rt; outcome(&rt, bytes)?, Err((cause, line)));
     }

@@ -3,10 +3,12 @@ ghost use Rattle.std.specs.Prelude.{◌≡◌, IfOk};
 ghost use Rattle.std.specs.BTreeMap as tree;
 ghost use Rattle.az_base.specs.Ids.{id_cmp};
 ghost use Rattle.az_base.specs.OptionRanges.{IsValid};
-ghost use Rattle.zone_model.specs.State.{opening};
+ghost use Rattle.zone_model.specs.State.{State, opening};
+ghost use Rattle.zone_model.specs.Stats.{stats_of};
 ghost use Rattle.autozone.specs.StandsFor.{StandsFor, Leaves, own_among};
 
 use crate::plain::registers::Registers;
+use crate::plain::roots::Roots;
 use crate::plain::zone::Plain;
 use az_base::{NoMemory, Options, ThreadNo};
 use std::alloc::Global;
@@ -22,11 +24,13 @@ impl Plain {
         ensures options { result.options ≡ options }
     {
         let registers = Registers::new();
+        let roots = Roots::new();
         Plain {
             options,
             thread,
             blocks: BTreeMap::new(alloc),
             registers,
+            roots,
             serials: 0,
             used: 0,
             own: 0,
@@ -49,17 +53,23 @@ fn own_list(alloc: Global, plain: &Plain) -> Result<IdList, NoMemory>
     Ok(gone)
 }
 
-/// The call `leave` that ends the thread: what it replies, and the statistics of the zone afterwards. O(blocks).
-pub fn leave(alloc: Global, plain: &Plain) -> Result<(Reply, Stats), NoMemory>
-    ensures { IfOk result (λ end. Leaves plain.now end.0 end.1) }
+/// The statistics of the zone. O(1).
+pub fn stats(plain: &Plain) -> Stats
+    ensures { (z : State) → StandsFor plain.now z → result ≡ stats_of z }
 {
-    let gone = own_list(alloc, plain)?;
-    let stats = Stats {
+    Stats {
         blocks: u64::from(plain.escaped),
         quanta: u64::from(plain.used),
         retained: 0,
         weak: 0,
         assocs: 0,
-    };
-    Ok((Reply::Reclaimed(gone), stats))
+    }
+}
+
+/// The call `leave` that ends the thread: what it replies, and the statistics of the zone afterwards. O(blocks).
+pub fn leave(alloc: Global, plain: &Plain) -> Result<(Reply, Stats), NoMemory>
+    ensures { IfOk result (λ end. Leaves plain.now end.0 end.1) }
+{
+    let gone = own_list(alloc, plain)?;
+    Ok((Reply::Reclaimed(gone), stats(plain)))
 }

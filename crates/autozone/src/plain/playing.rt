@@ -2,12 +2,15 @@
 ghost use Rattle.std.specs.Prelude.{◌≡◌, IfOk, OnErr, map};
 ghost use Rattle.az_base.specs.OptionRanges.{IsValid};
 ghost use Rattle.heap_script.specs.Scripts.{AllBuilt, OneThread, IsBuilt};
-ghost use Rattle.autozone.specs.StandsFor.{Stepped, Kept};
+ghost use Rattle.autozone.specs.StandsFor.{IsReal, Stepped, Kept};
 ghost use Rattle.autozone.specs.Histories.{IsHistoryOf};
 ghost use Rattle.autozone.specs.Playing.{IsBuiltCall, IsHistoryOfOne};
 
 use crate::plain::births::make_block;
-use crate::plain::ends::leave;
+use crate::plain::ends::{leave, stats};
+use crate::plain::registers::{copy, drop_reg};
+use crate::plain::roots::{get_root, set_root};
+use crate::plain::words::{get, load, put, store};
 use crate::plain::zone::Plain;
 use az_base::{NoMemory, Options, ThreadNo};
 use heap_script::{Act, Line, Script};
@@ -23,14 +26,28 @@ pub struct Played {
 
 /// One call of the thread, with its reply.
 fn step(alloc: Global, plain: &mut Plain, call: &Call) -> Result<Reply, NoMemory>
-    requires { IsBuiltCall call.now }
+    requires built { IsBuiltCall call.now }
+    requires real { IsReal plain.old }
     ensures ok { IfOk result (λ reply. Stepped plain.old plain.new call.now reply) }
     ensures err { OnErr result (Kept plain.old plain.new) }
     ensures thread { plain.new.thread ≡ plain.old.thread }
     ensures options { plain.new.options ≡ plain.old.options }
 {
     match call {
-        Call::New { to, layout, .. } => make_block(alloc, plain, *to, layout),
+        Call::New {
+            to,
+            layout,
+            actions,
+        } => make_block(alloc, plain, *to, layout, actions.as_slice()),
+        Call::Load { to, from, at } => Ok(load(plain, *to, *from, *at)),
+        Call::Store { into, at, from } => store(alloc, plain, *into, *at, *from),
+        Call::Put { into, at, number } => Ok(put(plain, *into, *at, *number)),
+        Call::Get { from, at } => Ok(get(plain, *from, *at)),
+        Call::Copy { to, from } => Ok(copy(plain, *to, *from)),
+        Call::DropReg { reg } => Ok(drop_reg(plain, *reg)),
+        Call::SetRoot { root, from } => set_root(alloc, plain, *root, *from),
+        Call::GetRoot { to, root } => Ok(get_root(plain, *to, *root)),
+        Call::Stats => Ok(Reply::Stats(stats(plain))),
         _ => unreachable!(),
     }
 }
@@ -49,7 +66,8 @@ fn call_of(line: &Line) -> &Call
 
 /// The entry of a call that the thread makes.
 fn entry(alloc: Global, plain: &mut Plain, call: &Call) -> Result<Entry, NoMemory>
-    requires { IsBuiltCall call.now }
+    requires built { IsBuiltCall call.now }
+    requires real { IsReal plain.old }
     ensures ok { IfOk result (λ e. (e.thread ≡ plain.old.thread) × (e.call ≡ call.now) × Stepped plain.old plain.new e.call e.reply) }
     ensures thread { plain.new.thread ≡ plain.old.thread }
     ensures options { plain.new.options ≡ plain.old.options }

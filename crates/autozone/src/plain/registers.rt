@@ -1,8 +1,12 @@
 //! A thread's registers.
-ghost use Rattle.std.specs.Prelude.{ℕ, ◌==◌, Option, None, if◌then◌else◌};
+ghost use Rattle.std.specs.Prelude.{◌≡◌, ℕ, ◌==◌, Option, None, if◌then◌else◌};
 ghost use Rattle.az_base.specs.declared.block_id.BlockId.{BlockId};
+ghost use Rattle.zone_model.specs.declared.call.Call.TheVariants as call;
+ghost use Rattle.autozone.specs.StandsFor.{Stepped};
 
+use crate::plain::zone::Plain;
 use az_base::{BlockId, Reg};
+use zone_model::Reply;
 
 /// What each of the sixteen registers holds: a block, or null.
 #[derive(Drop)]
@@ -20,10 +24,38 @@ impl Registers {
         Registers { held: [None; 16] }
     }
 
+    /// What a register holds.
+    pub fn get(&self, reg: Reg) -> Option<BlockId>
+        ensures { (f : ℕ → Option BlockId) → Hold self.now f → result ≡ f reg }
+    {
+        self.held[reg.get() as usize]
+    }
+
     /// A register holds a block, or null.
     pub fn set(&mut self, reg: Reg, id: Option<BlockId>)
         ensures { (f : ℕ → Option BlockId) → Hold self.old f → Hold self.new (λ r. if reg == r then id else f r) }
     {
         self.held[reg.get() as usize] = id;
     }
+}
+
+/// The call `copy`: one register gets what another one holds. O(1).
+pub fn copy(plain: &mut Plain, to: Reg, from: Reg) -> Reply
+    ensures step { Stepped plain.old plain.new (call.Copy to from) result }
+    ensures thread { plain.new.thread ≡ plain.old.thread }
+    ensures options { plain.new.options ≡ plain.old.options }
+{
+    let id = plain.registers.get(from);
+    plain.registers.set(to, id);
+    Reply::Done
+}
+
+/// The call `drop`: the register becomes null. O(1).
+pub fn drop_reg(plain: &mut Plain, reg: Reg) -> Reply
+    ensures step { Stepped plain.old plain.new (call.DropReg reg) result }
+    ensures thread { plain.new.thread ≡ plain.old.thread }
+    ensures options { plain.new.options ≡ plain.old.options }
+{
+    plain.registers.set(reg, None);
+    Reply::Done
 }

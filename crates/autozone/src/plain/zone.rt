@@ -2,15 +2,17 @@
 ghost use Rattle.std.specs.Prelude.{◌≤◌, ◌^◌};
 
 use crate::plain::registers::Registers;
-use az_base::{BlockId, Options, ThreadNo, Word};
+use crate::plain::roots::Roots;
+use az_base::{Action, BlockId, Options, ThreadNo, Word};
 use block_layouts::Layout;
 use std::collections::BTreeMap;
 
-/// A block: its layout and words, and whether it has escaped.
+/// A block: its layout and words, what its finaliser does, and whether it has escaped.
 #[derive(Drop)]
 pub struct Held {
     pub layout: Layout,
     pub words: Vec<Word>,
+    pub actions: Vec<Action>,
     pub escaped: bool,
 }
 
@@ -22,6 +24,7 @@ pub struct Plain {
     pub thread: ThreadNo,
     pub blocks: BTreeMap<BlockId, Held>,
     pub registers: Registers,
+    pub roots: Roots,
     pub serials: u64,
     pub used: u32,
     pub own: u32,

@@ -1,47 +1,70 @@
-use Rattle.std.proofs.Common.{◌≡◌, ◌+◌, [], Ok, Err, Some, None, arith}
+use Rattle.std.proofs.Common.{◌≡◌, ◌+◌, Result, Ok, sym, ap, ◌∙◌, arith}
 use Rattle.az_words.specs.Lines.{lines_of}
-use Rattle.heap_script.specs.Reading.{entry_of, first_thread}
-use Rattle.heap_script.proofs.Loop.{total, skips_at, adds_at, stops_at, ends_at, refused_script, read_script}
-use Rattle.heap_script.proofs.Facts.{one_thread, all_built}
+use Rattle.heap_script.specs.declared.cause.Cause.{Cause}
+use Rattle.heap_script.specs.declared.entries.Entry.{Entry}
+use Rattle.heap_script.specs.declared.entries.Entry.TheVariants as entry
+use Rattle.heap_script.specs.Reading.{entry_of, first_thread, script_of}
+use Rattle.heap_script.proofs.Loop.{at_start, says_at, errs_at, ends_at}
+use Rattle.heap_script.proofs.Facts.{one_thread, all_built, valid_options}
 use Rattle.heap_script.proofs.reading.parse.Goals as goal
+
+pub lines-init : goal.lines-init
+lines-init c = record { read = rw (c.usual-options.ensures, c.new-lines.ensures.items) (at_start c.args.bytes.now); few = omega arith }
 
 pub returns-in-Err-clause-gives : goal.returns-in-Err-clause-gives
 returns-in-Err-clause-gives c =
-    let front = c.lines.lines.items in
-    let e : entry_of (c.lines.number + 1) (first_thread front) c.in-Some.line.now ≡ Err c.in-Err.cause = cc in
-    refused_script c.args.bytes.now (record { cause = c.in-Err.cause; line = c.lines.number + 1 })
-    (stops_at front (c.lines.number + 1) (lines_of c.in-Some.after.now) (lines_of c.lines.rest.now) c.in-Some.line.now c.in-Err.cause (total [] 1 (lines_of c.args.bytes.now))
-    c.in-Some.ensures.some e c.lines.invariant.read)
+    let is = sym (c.first_thread.ensures ∙ ap first_thread c.deref.ensures.value) in
+    rw c.at_line.ensures
+    (errs_at c.lines.options c.lines.lines.items (c.lines.number + 1) (lines_of c.in-Some.after.now) (lines_of c.lines.rest.now) c.in-Some.line.now c.in-Err.err c.first_thread.result c.args.bytes.now
+    c.in-Some.ensures.some is c.in-Err.ensures.says c.lines.invariant.read)
 
-pub lines-preserved-in-Ok-None : goal.lines-preserved-in-Ok-None
-lines-preserved-in-Ok-None c =
+pub lines-preserved-in-Ok-Nothing : goal.lines-preserved-in-Ok-Nothing
+lines-preserved-in-Ok-Nothing c =
     let front = c.lines.lines.items in
-    let e : entry_of (c.lines.number + 1) (first_thread front) c.in-Some.line.now ≡ Ok None = cc in
+    let e : entry_of (c.lines.number + 1) (first_thread front) c.in-Some.line.now ≡ Ok entry.Nothing =
+    ap (λ only. entry_of (c.lines.number + 1) only c.in-Some.line.now) (sym (c.first_thread.ensures ∙ ap first_thread c.deref.ensures.value)) ∙ c.in-Ok-Nothing.ensures.says ∙ ap {B = Result Entry Cause} Ok c.in-Ok-Nothing.field-0-is in
     record {
-      read = skips_at front (c.lines.number + 1) (lines_of c.in-Some.after.now) (lines_of c.lines.rest.now) c.in-Some.line.now (total [] 1 (lines_of c.args.bytes.now))
+      read = says_at c.lines.options front (c.lines.number + 1) (lines_of c.in-Some.after.now) (lines_of c.lines.rest.now) c.in-Some.line.now entry.Nothing (script_of c.args.bytes.now)
           c.in-Some.ensures.some e c.lines.invariant.read;
-      few = omega (arith, c.in-Ok-None.ensures.few);
+      few = omega (arith, c.in-Ok-Nothing.ensures.few);
+    }
+
+pub lines-preserved-in-Ok-Set : goal.lines-preserved-in-Ok-Set
+lines-preserved-in-Ok-Set c =
+    let front = c.lines.lines.items in
+    let set = c.in-Ok-Set.setting in
+    let e : entry_of (c.lines.number + 1) (first_thread front) c.in-Some.line.now ≡ Ok (entry.Set set) =
+    ap (λ only. entry_of (c.lines.number + 1) only c.in-Some.line.now) (sym (c.first_thread.ensures ∙ ap first_thread c.deref.ensures.value)) ∙ c.in-Ok-Set.ensures.says ∙ ap {B = Result Entry Cause} Ok c.in-Ok-Set.field-0-is in
+    record {
+      read = rw c.onto-options.ensures
+          (says_at c.lines.options front (c.lines.number + 1) (lines_of c.in-Some.after.now) (lines_of c.lines.rest.now) c.in-Some.line.now (entry.Set set) (script_of c.args.bytes.now)
+          c.in-Some.ensures.some e c.lines.invariant.read);
+      few = omega (arith, c.in-Ok-Set.ensures.few);
     }
 
 pub lines-preserved : goal.lines-preserved
 lines-preserved c =
     let front = c.lines.lines.items in
-    let e : entry_of (c.lines.number + 1) (first_thread front) c.in-Some.line.now ≡ Ok (Some c.in-Ok-Some.line) = cc in
+    let call = c.in-Ok-Call.line in
+    let e : entry_of (c.lines.number + 1) (first_thread front) c.in-Some.line.now ≡ Ok (entry.Call call) =
+    ap (λ only. entry_of (c.lines.number + 1) only c.in-Some.line.now) (sym (c.first_thread.ensures ∙ ap first_thread c.deref.ensures.value)) ∙ c.in-Ok-Call.ensures.says ∙ ap {B = Result Entry Cause} Ok c.in-Ok-Call.field-0-is in
     record {
-      read = rw c.in_ok-push-in-Ok-Some.ensures.items
-          (adds_at front (c.lines.number + 1) (lines_of c.in-Some.after.now) (lines_of c.lines.rest.now) c.in-Some.line.now c.in-Ok-Some.line (total [] 1 (lines_of c.args.bytes.now))
+      read = rw c.in_ok-push-in-Ok-Call.ensures.items
+          (says_at c.lines.options front (c.lines.number + 1) (lines_of c.in-Some.after.now) (lines_of c.lines.rest.now) c.in-Some.line.now (entry.Call call) (script_of c.args.bytes.now)
           c.in-Some.ensures.some e c.lines.invariant.read);
-      few = omega (arith, c.in-Ok-Some.ensures.few);
+      few = omega (arith, c.in-Ok-Call.ensures.few);
     }
 
 pub returns-clause-gives : goal.returns-clause-gives
 returns-clause-gives c =
-    rw (c.usual.ensures, c.from_vec.ensures)
-    (read_script c.args.bytes.now c.lines.lines.items
-    (ends_at c.lines.lines.items (c.lines.number + 1) (lines_of c.lines.rest.now) (total [] 1 (lines_of c.args.bytes.now)) c.in_default.ensures.none c.lines.invariant.read))
+    rw c.from_vec.ensures
+    (ends_at c.lines.options c.lines.lines.items (c.lines.number + 1) (lines_of c.lines.rest.now) (script_of c.args.bytes.now) c.in_default.ensures.none c.lines.invariant.read)
+
+pub returns-clause-options : goal.returns-clause-options
+returns-clause-options c = valid_options c.args.bytes.now (record { options = c.lines.options; lines = c.from_vec.result }) (returns-clause-gives c)
 
 pub returns-clause-one_thread : goal.returns-clause-one_thread
-returns-clause-one_thread c = one_thread c.args.bytes.now (record { options = c.usual.result; lines = c.from_vec.result }) (returns-clause-gives c)
+returns-clause-one_thread c = one_thread c.args.bytes.now (record { options = c.lines.options; lines = c.from_vec.result }) (returns-clause-gives c)
 
 pub returns-clause-built : goal.returns-clause-built
-returns-clause-built c = all_built c.args.bytes.now (record { options = c.usual.result; lines = c.from_vec.result }) (returns-clause-gives c)
+returns-clause-built c = all_built c.args.bytes.now (record { options = c.lines.options; lines = c.from_vec.result }) (returns-clause-gives c)

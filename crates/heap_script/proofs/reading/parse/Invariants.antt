@@ -1,11 +1,12 @@
-use Rattle.std.proofs.Common.{◌≡◌, ◌+◌, ◌≤◌, [], length}
+use Rattle.std.proofs.Common.{◌≡◌, ◌+◌, ◌≤◌, length}
 use Rattle.az_words.specs.Lines.{lines_of}
+use Rattle.heap_script.specs.Reading.{script_of}
 use Rattle.heap_script.proofs.Loop.{total}
 use Rattle.heap_script.proofs.reading.parse.Given as goal
 
 abbrev pub invariant-lines : goal.invariant-lines
 invariant-lines l = record {
-  read : total l.lines.items (l.number + 1) (lines_of l.rest) ≡ total [] 1 (lines_of l.bytes);
+  read : total l.options l.lines.items (l.number + 1) (lines_of l.rest) ≡ script_of l.bytes;
   few : l.number ≤ 65536;
 }
 

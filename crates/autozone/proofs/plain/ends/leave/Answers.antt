@@ -21,15 +21,8 @@ returns c = λ z s.
     let own : (q : BlockId) → among gone q ≡ is_own z p.thread q = λ q. ap (λ l. among l q) listed ∙ listed_is_own p z s ordered q in
     let after = with_end (without_blocks z gone) p.thread in
     let leaves : Leaves z p.thread gone after = record {
-      no_cycle = λ k h. let none : None ≡ Some k = sym s.cycle ∙ h.0 in cc (none);
+      no_cycle = λ k h. let none : None ≡ Some k = sym s.shows.cycle ∙ h.0 in cc (none);
       gone_ones = (subst (IsStrictlySortedBy id_cmp) (sym listed) (own_sorted p.thread p.blocks.entries ordered), λ q. (λ h. sym (own q) ∙ h, λ h. own q ∙ h));
       does = refl;
     } in
-    let before : ◌≡◌ record { blocks = c.from.result; quanta = c.from-2.result; retained = 0; weak = 0; assocs = 0 } (stats_of z) = λ i. record {
-      blocks = (c.from.ensures ∙ sym s.escaped) i;
-      quanta = (c.from-2.ensures ∙ sym s.used) i;
-      retained = sym (ap len s.counts ∙ len-empty id_cmp ℕ) i;
-      weak = sym (ap len s.weak ∙ len-empty loc_cmp BlockId) i;
-      assocs = sym (ap len s.assocs ∙ len-empty pair_cmp BlockId) i;
-    } in
-    (after, step_plain z _ after s.running (λ id n. n) refl (after, leaves, sym (unseen after s.cycle)), before ∙ sym (stats_without_own z p.thread gone own))
+    (after, step_plain z _ after s.shows.running (λ id n. n) refl (after, leaves, sym (unseen after s.shows.cycle)), c.stats.ensures z s ∙ sym (stats_without_own z p.thread gone own))

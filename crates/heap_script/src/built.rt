@@ -1,0 +1,31 @@
+//! What can be played so far: what isn't built has no name in scripts yet.
+ghost use Rattle.std.specs.Prelude.{◌≡◌};
+ghost use Rattle.heap_script.specs.Built.{is_built, built_name};
+
+use crate::call_name::{CallName, call_name};
+
+fn is_built(name: CallName) -> bool
+    ensures { result ≡ is_built name }
+{
+    matches!(
+        name,
+        CallName::New
+            | CallName::Load
+            | CallName::Store
+            | CallName::Put
+            | CallName::Get
+            | CallName::Copy
+            | CallName::Drop
+            | CallName::SetRoot
+            | CallName::GetRoot
+            | CallName::Stats
+    )
+}
+
+/// The call that a word names, where it is built.
+#[tactic(auto, unfolding(crate::specs::Built::built_name))]
+pub fn built_name(word: &[u8]) -> Option<CallName>
+    ensures { result ≡ built_name word.now }
+{
+    call_name(word).filter(|name| is_built(*name))
+}
