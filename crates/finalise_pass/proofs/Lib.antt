@@ -1,0 +1,6 @@
+pub mod Keeping
+pub mod Outcomes
+pub mod Searching
+pub mod Runs
+pub mod Numbered
+pub mod Storing

@@ -1,0 +1,4 @@
+pub mod Finalisers
+pub mod Passing
+pub mod Kept
+pub mod SmallGraphs

@@ -1,0 +1,7 @@
+pub mod Marks
+pub mod Slices
+pub mod Begins
+pub mod Ends
+pub mod Closure
+pub mod Stores
+pub mod Condemning

@@ -1,0 +1,6 @@
+use Rattle.zone_model.specs.Collection.{WasAnchored}
+use Rattle.gen_marker.proofs.Closure.{finish_dark}
+use Rattle.gen_marker.proofs.laws.finish_reaches_anchored_blocks.Goals as goal
+
+pub returns : goal.returns
+returns c = λ m s old new cycle. finish_dark m s old new (WasAnchored cycle)

@@ -1,0 +1,18 @@
+//! Why a count stays as it is.
+use thiserror::Error;
+
+/// Why a count was not raised.
+#[derive(Clone, Copy, Debug, PartialEq, Eq, Error)]
+pub enum Raise {
+    /// The count is at the limit, or above it.
+    #[error("CountFull")]
+    CountFull,
+    /// The block has no count yet, and there is no room for it.
+    #[error("NoMemory")]
+    NoMemory,
+}
+
+/// A count of 0 was to be lowered.
+#[derive(Clone, Copy, Debug, PartialEq, Eq, Error)]
+#[error("OverRelease")]
+pub struct OverRelease;

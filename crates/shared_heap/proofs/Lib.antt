@@ -1,0 +1,12 @@
+pub mod Counts
+pub mod Filtered
+pub mod Tables
+pub mod Picks
+pub mod Sums
+pub mod Standing
+pub mod Stepping
+pub mod Holding
+pub mod Results
+pub mod Wholes
+pub mod Rooms
+pub mod Births

@@ -1,0 +1,27 @@
+use Rattle.std.proofs.Common.{◌∙◌, ap, refl, arith, length, Option, None}
+use Rattle.std.proofs.lemmas.List.{length-replicate}
+use Rattle.az_base.specs.declared.block_id.BlockId.{BlockId}
+use Rattle.az_base.specs.Ids.{id_cmp}
+use Rattle.block_layouts.specs.Layouts.{quanta, len_of}
+use Rattle.zone_model.specs.Maps.{total-empty}
+use Rattle.shared_heap.specs.Stored.{Kept}
+use Rattle.shared_heap.specs.Shared.{used_by, number_of}
+use Rattle.shared_heap.proofs.Standing.{opening_stands}
+use Rattle.shared_heap.proofs.heap.Heap.new.Goals as goal
+
+pub invariant_of-result : goal.invariant_of-result
+invariant_of-result c = record {
+  used = ap used_by c.new.ensures.blocks ∙ total-empty id_cmp (λ id (k : Kept). quanta (len_of k.layout));
+  fits = omega arith;
+  number = ap number_of c.new.ensures.blocks ∙ total-empty id_cmp (λ id (k : Kept). 1);
+  few = omega arith;
+  roots = ap length c.in-Ok.ensures.items ∙ length-replicate 256 (let o : Option BlockId = None in o);
+  room = rw c.new-2.ensures.items (omega arith);
+  taken = omega arith;
+}
+
+pub returns-clause-value : goal.returns-clause-value
+returns-clause-value c = rw (c.new.ensures.blocks, c.new.ensures.holds, c.new-2.ensures.items, c.in-Ok.ensures.items) refl
+
+pub returns-clause-stands : goal.returns-clause-stands
+returns-clause-stands c = rw (c.new.ensures.blocks, c.new.ensures.holds, c.new-2.ensures.items, c.in-Ok.ensures.items) (opening_stands c.args.options)

@@ -1,0 +1,14 @@
+-- What the fields of a heap keep
+use Rattle.std.specs.Prelude.{◌≡◌, ◌≤◌, ◌+◌, length}
+use Rattle.shared_heap.specs.Shared.{used_by, number_of}
+use Rattle.shared_heap.specs.declared.heap.Heap.TheInside.{Inside}
+
+pub record IsHeap (h : Inside) : Type 0 where
+  pub used : used_by h.blocks.blocks ≡ h.used
+  pub fits : h.used ≤ h.options.heap_quanta
+  pub number : number_of h.blocks.blocks ≡ h.number
+  -- a block takes at least one quantum
+  pub few : h.number ≤ h.used
+  pub roots : length h.roots.items ≡ 256
+  pub room : length h.room.items ≤ h.taken + h.blocks.spare
+  pub taken : h.taken ≤ length h.room.items

@@ -1,0 +1,10 @@
+pub mod Holds
+pub mod Whole
+pub mod Stored
+pub mod Table
+pub mod Shared
+pub mod Codes
+pub mod Inside
+pub mod Words
+pub mod Stands
+pub mod Steps

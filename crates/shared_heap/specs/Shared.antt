@@ -1,0 +1,87 @@
+-- What a heap holds
+use Rattle.std.specs.Prelude.{◌≡◌, ℕ, ◌+◌, List, [], Option, Some, None, false, slice_set, drop, replicate}
+use Rattle.std.specs.Option.{option_map_or}
+use Rattle.std.specs.FinMap.{FinMap, get, insert, empty}
+use Rattle.az_base.specs.declared.action.Action.{Action}
+use Rattle.az_base.specs.declared.block_id.BlockId.{BlockId}
+use Rattle.az_base.specs.declared.options.Options.{Options}
+use Rattle.az_base.specs.declared.word.Word.{Word}
+use Rattle.az_base.specs.Ids.{id_cmp}
+use Rattle.block_layouts.specs.declared.layout.Layout.{Layout}
+use Rattle.block_layouts.specs.Layouts.{len_of, quanta, first_words}
+use Rattle.zone_model.specs.declared.entry.Stats.{Stats}
+use Rattle.zone_model.specs.Maps.{total}
+use Rattle.zone_model.specs.State.{with_edit}
+use Rattle.shared_heap.specs.Holds.{Holds, times, with_times}
+use Rattle.shared_heap.specs.Stored.{Kept}
+
+pub record Shared : Type 0 where
+  pub options : Options
+  pub blocks : FinMap id_cmp Kept
+  -- of each block, which threads hold it and how often
+  pub holds : FinMap id_cmp Holds
+  -- of 256
+  pub roots : List (Option BlockId)
+  -- the lengths of the blocks for which there is room, next first
+  pub room : List ℕ
+
+-- how often the thread holds the block
+abbrev pub held : Shared → ℕ → BlockId → ℕ
+held h t id = option_map_or (λ m. times m t) (get h.holds id) 0
+
+-- no thread holds the block
+abbrev pub IsFresh : Shared → BlockId → Type 0
+IsFresh h id = get h.holds id ≡ Some empty
+
+-- the quanta of the blocks
+abbrev pub used_by : FinMap id_cmp Kept → ℕ
+used_by blocks = total (λ id k. quanta (len_of k.layout)) blocks
+
+-- how many blocks there are
+abbrev pub number_of : FinMap id_cmp Kept → ℕ
+number_of blocks = total (λ id k. 1) blocks
+
+-- the statistics, while there are no counts, weak locations or associations
+abbrev pub stats_in : Shared → Stats
+stats_in h = record { blocks = number_of h.blocks; quanta = used_by h.blocks; retained = 0; weak = 0; assocs = 0 }
+
+-- no blocks, and all roots null
+abbrev pub new_heap : Options → Shared
+new_heap o = record { options = o; blocks = empty; holds = empty; roots = replicate 256 None; room = [] }
+
+-- the root holds the block, or null
+abbrev pub rooted : Shared → ℕ → Option BlockId → Shared
+rooted h g v = record h { roots = slice_set h.roots g v }
+
+-- the thread holds the block so often
+abbrev pub holding : Shared → ℕ → BlockId → ℕ → Shared
+holding h t id n = record h { holds = with_edit h.holds id (λ m. with_times m t n) }
+
+-- the thread holds the block, if there is one, once more
+abbrev pub holding_more : Shared → ℕ → Option BlockId → Shared
+holding_more h t None = h
+holding_more h t (Some id) = record h { holds = with_edit h.holds id (λ m. with_times m t (times m t + 1)) }
+
+-- a word of the block, if there is one, is changed
+abbrev pub written : Shared → Option BlockId → ℕ → Word → Shared
+written h None at w = h
+written h (Some id) at w = record h { blocks = with_edit h.blocks id (λ k. record k { words = slice_set k.words at w }) }
+
+-- a block that has just escaped
+abbrev pub newly : Layout → List Word → List Action → Kept
+newly layout words actions = record { layout = layout; words = words; actions = actions; finalised = false; age = 0 }
+
+-- a new block, which the thread holds once
+abbrev pub with_birth : Shared → ℕ → BlockId → Layout → List Action → Shared
+with_birth h t id layout actions = record h {
+  blocks = insert h.blocks id (newly layout (first_words layout) actions);
+  holds = insert h.holds id (with_times empty t 1);
+}
+
+-- a block that has escaped, which nobody holds
+abbrev pub admitted : Shared → BlockId → Layout → List Word → Shared
+admitted h id layout words = record h {
+  blocks = insert h.blocks id (newly layout words []);
+  holds = insert h.holds id empty;
+  room = drop 1 h.room;
+}

@@ -1,0 +1,30 @@
+-- Which states a heap stands for
+use Rattle.std.specs.Prelude.{◌≡◌, ◌<◌, ◌-◌, ℕ, min, Option, Some, IsTrue, option_map, option_and_then, slice_get}
+use Rattle.std.specs.FinMap.{get, empty}
+use Rattle.az_base.specs.declared.block_id.BlockId.{BlockId}
+use Rattle.zone_model.specs.State.{State, Block, is_escaped}
+use Rattle.zone_model.specs.Reach.{Edge}
+use Rattle.shared_heap.specs.Stored.{Kept}
+use Rattle.shared_heap.specs.Shared.{Shared}
+
+-- what the heap keeps of a block, where it has escaped and there were so many Reclaims
+abbrev pub kept_of : ℕ → Block → Option Kept
+kept_of reclaims b = option_map (λ since. record { layout = b.layout; words = b.words; actions = b.actions; finalised = b.finalised; age = min (reclaims - since) 3 }) b.since
+
+-- the same of what a state has at an id
+abbrev pub escaped_view : ℕ → Option Block → Option Kept
+escaped_view reclaims o = option_and_then (kept_of reclaims) o
+
+-- the escaped blocks, the roots and the options are those of the state, which has no counts, weak locations or associations
+pub record Stands (h : Shared) (z : State) : Type 0 where
+  pub options : z.options ≡ h.options
+  pub blocks : (q : BlockId) → get h.blocks q ≡ escaped_view z.reclaims (get z.blocks q)
+  pub roots : (g : ℕ) → g < 256 → slice_get h.roots g ≡ Some (z.roots g)
+  pub counts : z.counts ≡ empty
+  pub weak : z.weak ≡ empty
+  pub assocs : z.assocs ≡ empty
+
+-- what holds between calls, as far as the calls rest on it: no escaped block refers to an unescaped one, and roots hold escaped blocks
+pub record Sound (z : State) : Type 0 where
+  pub edges : (a b : BlockId) → IsTrue (is_escaped z a) → Edge z a b → IsTrue (is_escaped z b)
+  pub roots : (g : ℕ) (b : BlockId) → z.roots g ≡ Some b → IsTrue (is_escaped z b)

@@ -1,0 +1,114 @@
+//! The escaped blocks, the roots, and the running numbers.
+ghost use Rattle.std.specs.Prelude.{◌≡◌, ◌≤◌, ℕ, IfOk};
+ghost use Rattle.std.specs.FinMap.{contains_key};
+ghost use Rattle.az_base.specs.declared.block_id.BlockId.{BlockId};
+ghost use Rattle.zone_model.specs.declared.call.Call.TheVariants as call;
+ghost use Rattle.zone_model.specs.declared.entry.Reply.TheVariants as reply;
+ghost use Rattle.zone_model.specs.State.{State, opening, is_escaped};
+ghost use Rattle.zone_model.specs.Quanta.{used_quanta};
+ghost use Rattle.shared_heap.specs.Shared.{used_by, stats_in, new_heap};
+ghost use Rattle.shared_heap.specs.Stands.{Stands};
+ghost use Rattle.shared_heap.specs.Steps.{Runs, Stepped};
+
+mod admission;
+mod births;
+mod roots;
+mod words;
+
+use crate::blocks::Blocks;
+use az_base::{BlockId, NoMemory, Options};
+use std::alloc::Global;
+use std::marker::Model;
+use zone_model::Stats;
+
+/// The escaped blocks and the roots of a zone. A block that a call is given is one of the heap's, unless the call says
+/// otherwise.
+#[derive(Drop)]
+pub struct Heap {
+    options: Options,
+    blocks: Blocks,
+    roots: Vec<Option<BlockId>>,
+    /// The small quanta of the blocks.
+    used: u32,
+    /// How many blocks there are.
+    number: u32,
+    /// The lengths of the blocks for which room was taken, and how many of them came in.
+    room: Vec<u32>,
+    taken: usize,
+}
+
+impl Model for Heap {
+    ghost use Rattle.std.specs.Prelude.{drop};
+    ghost use Rattle.shared_heap.specs.Shared.{Shared};
+    ghost use Rattle.shared_heap.specs.Codes.{coded_shared};
+
+    ghost Value = { Shared };
+
+    ghost coded = { coded_shared };
+
+    ghost use Rattle.shared_heap.specs.Inside.{IsHeap};
+
+    ghost view = { λ h. record { options = h.options; blocks = h.blocks.blocks; holds = h.blocks.holds; roots = h.roots.items; room = drop h.taken h.room.items } };
+
+    ghost invariant = { IsHeap };
+}
+
+impl Heap {
+    /// A heap with no block, and with null roots.
+    pub fn new(alloc: Global, options: Options) -> Result<Heap, NoMemory>
+        ensures value { IfOk result (λ h. h ≡ new_heap options) }
+        ensures stands { IfOk result (λ h. Stands h (opening options)) }
+    {
+        let Ok(roots) = Vec::from_slice(alloc, &[None; 256]) else {
+            return Err(NoMemory);
+        };
+        Ok(Heap {
+            options,
+            blocks: Blocks::new(alloc),
+            roots,
+            used: 0,
+            number: 0,
+            room: Vec::new(alloc),
+            taken: 0,
+        })
+    }
+
+    /// The options that it was made with. O(1).
+    pub fn options(&self) -> Options
+        ensures value { result ≡ self.now.options }
+        ensures stands { (z : State) → Stands self.now z → result ≡ z.options }
+    {
+        self.options
+    }
+
+    /// The small quanta of the blocks, at most the option heap. O(1).
+    pub fn used(&self) -> u32
+        ensures value { result ≡ used_by self.now.blocks }
+        ensures stands { (z : State) → Stands self.now z → result ≡ used_quanta z }
+        ensures fits { result ≤ self.now.options.heap_quanta }
+    {
+        self.used
+    }
+
+    /// Whether it is a block of the heap. O(1) expected.
+    pub fn has(&self, id: BlockId) -> bool
+        ensures value { result ≡ contains_key self.now.blocks id }
+        ensures stands { (z : State) → Stands self.now z → result ≡ is_escaped z id }
+    {
+        self.blocks.has(id)
+    }
+
+    /// The statistics. O(1).
+    pub fn stats(&self) -> Stats
+        ensures value { result ≡ stats_in self.now }
+        ensures step { (z : State) (t : ℕ) → Runs self.now z t → Stepped self.now z t call.Stats (reply.Stats result) }
+    {
+        Stats {
+            blocks: u64::from(self.number),
+            quanta: u64::from(self.used),
+            retained: 0,
+            weak: 0,
+            assocs: 0,
+        }
+    }
+}

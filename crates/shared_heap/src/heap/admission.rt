@@ -1,0 +1,79 @@
+//! How blocks escape into the heap: room is taken for all of them, and then each comes in.
+ghost use Rattle.std.specs.Prelude.{◌≡◌, ◌<◌, ◌≤◌, ◌+◌, ◌⊎◌, ℕ, [], None, Some, IsOk, IsSome, OnOk, OnErr, ◌==◌, ◌&&◌, if◌then◌else◌, slice_get};
+ghost use Rattle.std.specs.FinMap.{get};
+ghost use Rattle.az_base.specs.declared.block_id.BlockId.{BlockId};
+ghost use Rattle.az_base.specs.Ids.{same_id};
+ghost use Rattle.block_layouts.specs.Layouts.{len_of, quanta};
+ghost use Rattle.zone_model.specs.State.{State};
+ghost use Rattle.zone_model.specs.Escape.{with_escaped};
+ghost use Rattle.shared_heap.specs.Shared.{held, used_by, holding, admitted, IsFresh};
+ghost use Rattle.shared_heap.specs.Stands.{Stands};
+ghost use Rattle.shared_heap.specs.Steps.{IsUnescaped};
+ghost use Rattle.shared_heap.specs.Whole.{Whole};
+
+use crate::heap::Heap;
+use crate::stored::Stored;
+use az_base::{BlockId, NoMemory, ThreadNo, Word};
+use block_layouts::Layout;
+use std::alloc::Global;
+
+impl Heap {
+    /// Room for blocks of these lengths, each to be admitted in its turn. O(lengths), and O(blocks) where the table
+    /// grows.
+    pub fn reserve_admit(&mut self, alloc: Global, lengths: &[u32]) -> Result<(), NoMemory>
+        requires room { self.old.room ≡ [] }
+        ensures ok { OnOk result (self.new ≡ record self.old { room = lengths.now }) }
+        ensures err { OnErr result (self.new ≡ self.old) }
+    {
+        let Ok(room) = Vec::from_slice(alloc, lengths) else {
+            return Err(NoMemory);
+        };
+        self.blocks.reserve(lengths.len())?;
+        self.room = room;
+        self.taken = 0;
+        Ok(())
+    }
+
+    /// Gives up the room that is left.
+    pub fn unreserve(&mut self)
+        ensures { self.new ≡ record self.old { room = [] } }
+    {
+        self.room.clear();
+        self.taken = 0;
+    }
+
+    /// An unescaped block, without actions, escapes: it is next in the room, and nobody holds it yet. It takes no
+    /// memory. O(1) expected.
+    pub fn admit(&mut self, id: BlockId, layout: Layout, words: Vec<Word>)
+        requires room { slice_get self.old.room 0 ≡ Some (len_of layout) }
+        requires absent { get self.old.blocks id ≡ None }
+        requires whole { Whole layout words.items }
+        requires fits { used_by self.old.blocks + quanta (len_of layout) ≤ self.old.options.heap_quanta }
+        ensures value { self.new ≡ admitted self.old id layout words.items }
+        ensures held { (u : ℕ) (q : BlockId) → held self.new u q ≡ (if same_id id q then 0 else held self.old u q) }
+        ensures fresh { IsFresh self.new id }
+        ensures used { used_by self.new.blocks ≡ used_by self.old.blocks + quanta (len_of layout) }
+        ensures stands { (z : State) → Stands self.old z → IsUnescaped z id layout words.items → Stands self.new (with_escaped z (same_id id)) }
+    {
+        let alloc = *words.allocator();
+        self.used += layout.quanta();
+        self.number += 1;
+        self.taken += 1;
+        let stored = Stored::new(alloc, layout, words, Vec::new(alloc));
+        let Ok(()) = self.blocks.add(id, stored) else {
+            unreachable!()
+        };
+    }
+
+    /// From now on the thread holds the block `n` times. O(1) expected, and O(threads that hold the block).
+    pub fn hold_count(&mut self, t: ThreadNo, id: BlockId, n: u32) -> Result<(), NoMemory>
+        requires given { IsSome (get self.old.blocks id) }
+        ensures ok { OnOk result (self.new ≡ holding self.old t id n) }
+        ensures held { OnOk result ((u : ℕ) (q : BlockId) → held self.new u q ≡ (if (t == u) && same_id id q then n else held self.old u q)) }
+        ensures stands { (z : State) → Stands self.old z → Stands self.new z }
+        ensures err { OnErr result (self.new ≡ self.old) }
+        ensures sure { (n ≡ 0) ⊎ ((0 < held self.old t id) ⊎ IsFresh self.old id) → IsOk result }
+    {
+        self.blocks.set_times(t, id, n)
+    }
+}

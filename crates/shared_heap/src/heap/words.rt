@@ -1,0 +1,173 @@
+//! The words of the blocks.
+ghost use Rattle.std.specs.Prelude.{◌≡◌, ◌≤◌, ◌+◌, ℕ, IsOk, IfOk, IfSome, IsSome, OnErr, Some, ◌==◌, ◌&&◌, if◌then◌else◌};
+ghost use Rattle.std.specs.FinMap.{get};
+ghost use Rattle.az_base.specs.declared.block_id.BlockId.{BlockId};
+ghost use Rattle.az_base.specs.declared.word.Word.TheVariants as words;
+ghost use Rattle.az_base.specs.declared.word.Class.TheVariants as class;
+ghost use Rattle.zone_model.specs.declared.call.Call.{Call};
+ghost use Rattle.zone_model.specs.declared.call.Call.TheVariants as call;
+ghost use Rattle.zone_model.specs.declared.entry.Reply.TheVariants as reply;
+ghost use Rattle.zone_model.specs.State.{State, reference, referent};
+ghost use Rattle.shared_heap.specs.Shared.{held, used_by};
+ghost use Rattle.shared_heap.specs.Stands.{Stands, Sound};
+ghost use Rattle.shared_heap.specs.Steps.{Runs, Stepped, NeedsWord, first_three, after_read, after_write, names};
+ghost use Rattle.shared_heap.specs.Whole.{Suits};
+ghost use Rattle.shared_heap.specs.Words.{word_misuse, word_in, class_in, Finds, number_in, reply_or};
+
+use crate::heap::Heap;
+use az_base::{BlockId, Class, Misuse, NoMemory, ThreadNo, Word};
+use zone_model::Reply;
+
+/// The word that refers to a block, or to none.
+fn reference(value: Option<BlockId>) -> Word
+    ensures { result ≡ reference value }
+{
+    match value {
+        Some(id) => Word::Block(id),
+        None => Word::Null,
+    }
+}
+
+/// The block to which a word refers.
+fn referent(word: Word) -> Option<BlockId>
+    ensures { result ≡ referent (Some word) }
+{
+    match word {
+        Word::Block(id) => Some(id),
+        _ => None,
+    }
+}
+
+/// The number in a Plain word.
+fn number(word: Word) -> u64
+    requires { Suits class.Plain word }
+    ensures { word ≡ words.Number result }
+{
+    match word {
+        Word::Number(number) => number,
+        _ => unreachable!(),
+    }
+}
+
+impl Heap {
+    /// The block whose word of this class stands at the place, or what is wrong.
+    fn find_word(&self, id: Option<BlockId>, at: u32, class: Class) -> Result<BlockId, Misuse>
+        ensures { Finds self.now id at class result }
+    {
+        let Some(id) = id else {
+            return Err(Misuse::NullBlock);
+        };
+        match self.blocks.class_at(id, at) {
+            None => Err(Misuse::NoWord),
+            Some(found) if found == class => Ok(id),
+            Some(_) => Err(Misuse::WrongClass),
+        }
+    }
+
+    /// The least of the misuses NullBlock, NoWord and WrongClass, for a call that needs a word of this class. O(1)
+    /// expected.
+    pub fn word_misuse(&self, id: Option<BlockId>, at: u32, class: Class) -> Option<Misuse>
+        requires given { IfSome id (λ b. IsSome (get self.now.blocks b)) }
+        ensures value { result ≡ word_misuse self.now id at class }
+        ensures stands { (z : State) (t : ℕ) (c : Call) (reg : ℕ) → Stands self.now z → z.registers t reg ≡ id → NeedsWord z t c reg at class → result ≡ first_three z t c }
+    {
+        self.find_word(id, at, class).err()
+    }
+
+    /// Reads a Strong word into a register of the thread: the thread holds what it gets once more. NoMemory too where it
+    /// holds that 4,294,967,295 times. O(1) expected, and O(threads that hold the block).
+    pub fn load(&mut self, t: ThreadNo, from: Option<BlockId>, at: u32) -> Result<Reply, NoMemory>
+        requires given { IfSome from (λ b. IsSome (get self.old.blocks b)) }
+        ensures reply { IfOk result (λ r. r ≡ reply_or (word_misuse self.old from at class.Strong) (reply.Block (referent (word_in self.old from at)))) }
+        ensures value { IfOk result (λ r. self.new ≡ after_read self.old t r) }
+        ensures held { IfOk result (λ r. (u : ℕ) (q : BlockId) → IsSome (get self.old.blocks q) → held self.new u q ≡ held self.old u q + (if (t == u) && names r q then 1 else 0)) }
+        ensures step { IfOk result (λ r. (z : State) (to reg : ℕ) → Runs self.old z t → z.registers t reg ≡ from → Stepped self.new z t (call.Load to reg at) r) }
+        ensures err { OnErr result (self.new ≡ self.old) }
+    {
+        match self.find_word(from, at, Class::Strong) {
+            Err(misuse) => Ok(Reply::Misuse(misuse)),
+            Ok(id) => {
+                let value = self.referent_at(id, at);
+                self.hold_more(t, &value)?;
+                Ok(Reply::Block(value))
+            }
+        }
+    }
+
+    /// Writes a Strong word. It takes no memory yet. O(1) expected.
+    pub fn store(
+        &mut self,
+        t: ThreadNo,
+        into: Option<BlockId>,
+        at: u32,
+        value: Option<BlockId>,
+    ) -> Result<Reply, NoMemory>
+        requires given { IfSome into (λ b. IsSome (get self.old.blocks b)) }
+        requires escaped { IfSome value (λ b. IsSome (get self.old.blocks b)) }
+        ensures sure { IsOk result }
+        ensures reply { IfOk result (λ r. r ≡ reply_or (word_misuse self.old into at class.Strong) reply.Done) }
+        ensures value { IfOk result (λ r. self.new ≡ after_write self.old into at (reference value) r) }
+        ensures step { IfOk result (λ r. (z : State) (reg from : ℕ) → Runs self.old z t → Sound z → z.registers t reg ≡ into → z.registers t from ≡ value → Stepped self.new z t (call.Store reg at from) r) }
+    {
+        Ok(self.write(into, at, Class::Strong, reference(value)))
+    }
+
+    /// Writes a Plain word. O(1) expected.
+    pub fn put(&mut self, t: ThreadNo, into: Option<BlockId>, at: u32, number: u64) -> Reply
+        requires given { IfSome into (λ b. IsSome (get self.old.blocks b)) }
+        ensures reply { result ≡ reply_or (word_misuse self.old into at class.Plain) reply.Done }
+        ensures value { self.new ≡ after_write self.old into at (words.Number number) result }
+        ensures step { (z : State) (reg : ℕ) → Runs self.old z t → z.registers t reg ≡ into → Stepped self.new z t (call.Put reg at number) result }
+    {
+        self.write(into, at, Class::Plain, Word::Number(number))
+    }
+
+    /// Reads a Plain word. O(1) expected.
+    pub fn get(&self, t: ThreadNo, from: Option<BlockId>, at: u32) -> Reply
+        requires given { IfSome from (λ b. IsSome (get self.now.blocks b)) }
+        ensures reply { result ≡ reply_or (word_misuse self.now from at class.Plain) (reply.Number (number_in (word_in self.now from at))) }
+        ensures step { (z : State) (reg : ℕ) → Runs self.now z t → z.registers t reg ≡ from → Stepped self.now z t (call.Get reg at) result }
+    {
+        match self.find_word(from, at, Class::Plain) {
+            Err(misuse) => Reply::Misuse(misuse),
+            Ok(id) => Reply::Number(self.number_at(id, at)),
+        }
+    }
+
+    /// Writes a word of this class.
+    fn write(&mut self, into: Option<BlockId>, at: u32, class: Class, word: Word) -> Reply
+        requires { Suits class word }
+        ensures reply { result ≡ reply_or (word_misuse self.old into at class) reply.Done }
+        ensures value { self.new ≡ after_write self.old into at word result }
+        ensures fits { used_by self.old.blocks ≤ self.old.options.heap_quanta }
+    {
+        match self.find_word(into, at, class) {
+            Err(misuse) => Reply::Misuse(misuse),
+            Ok(id) => {
+                self.blocks.set_word(id, at, word);
+                Reply::Done
+            }
+        }
+    }
+
+    /// The block to which a word of a block refers.
+    fn referent_at(&self, id: BlockId, at: u32) -> Option<BlockId>
+        ensures { result ≡ referent (word_in self.now (Some id) at) }
+    {
+        match self.blocks.word(id, at) {
+            Some(word) => referent(word),
+            None => None,
+        }
+    }
+
+    /// The number in a Plain word of a block.
+    fn number_at(&self, id: BlockId, at: u32) -> u64
+        requires { class_in self.now id at ≡ Some class.Plain }
+        ensures { word_in self.now (Some id) at ≡ Some (words.Number result) }
+    {
+        match self.blocks.word(id, at) {
+            Some(word) => number(word),
+            None => unreachable!(),
+        }
+    }
+}

@@ -1,0 +1,242 @@
+ghost use Rattle.std.specs.Prelude.{◌≡◌, [], None, Some, IfSome, IsSome, IsTrue, ◌↔◌, ◌≤◌, ◌+◌, slice_get};
+ghost use Rattle.std.specs.FinMap.{get};
+
+use super::*;
+use az_base::{Action, BlockId, Class, Misuse, Options, RootNo, ThreadNo, Word};
+use block_layouts::Layout;
+use std::alloc::Global;
+use std::test::*;
+use zone_model::{ActionList, Reply};
+
+/// Whether null, or a block of the heap.
+fn is_known(heap: &Heap, id: &Option<BlockId>) -> bool
+    ensures { IsTrue result ↔ IfSome id.now (λ b. IsSome (get heap.now.blocks b)) }
+{
+    match id {
+        Some(id) => heap.has(*id),
+        None => true,
+    }
+}
+
+/// The misuse of a reply.
+fn misuse(reply: &Reply) -> Option<Misuse> {
+    match reply {
+        Reply::Misuse(misuse) => Some(*misuse),
+        _ => None,
+    }
+}
+
+/// The block of a reply.
+fn block(reply: &Reply) -> Option<BlockId> {
+    match reply {
+        Reply::Block(id) => *id,
+        _ => None,
+    }
+}
+
+/// The number of a reply.
+fn number(reply: &Reply) -> Option<u64> {
+    match reply {
+        Reply::Number(number) => Some(*number),
+        _ => None,
+    }
+}
+
+fn load(heap: &mut Heap, t: ThreadNo, from: &Option<BlockId>, at: u32) -> Option<Reply> {
+    if !is_known(heap, from) {
+        return None;
+    }
+    heap.load(t, *from, at).ok()
+}
+
+fn store(
+    heap: &mut Heap,
+    t: ThreadNo,
+    into: &Option<BlockId>,
+    at: u32,
+    value: &Option<BlockId>,
+) -> Option<Reply> {
+    if !is_known(heap, into) || !is_known(heap, value) {
+        return None;
+    }
+    heap.store(t, *into, at, *value).ok()
+}
+
+fn put(
+    heap: &mut Heap,
+    t: ThreadNo,
+    into: &Option<BlockId>,
+    at: u32,
+    number: u64,
+) -> Option<Reply> {
+    if !is_known(heap, into) {
+        return None;
+    }
+    Some(heap.put(t, *into, at, number))
+}
+
+fn read(heap: &Heap, t: ThreadNo, from: &Option<BlockId>, at: u32) -> Option<Reply> {
+    if !is_known(heap, from) {
+        return None;
+    }
+    Some(heap.get(t, *from, at))
+}
+
+fn set_root(heap: &mut Heap, t: ThreadNo, root: RootNo, value: &Option<BlockId>) -> Option<Reply> {
+    if !is_known(heap, value) {
+        return None;
+    }
+    Some(heap.set_root(t, root, *value))
+}
+
+fn born(
+    alloc: Global,
+    heap: &mut Heap,
+    t: ThreadNo,
+    id: &Option<BlockId>,
+    layout: &Layout,
+    actions: &ActionList,
+) -> Option<Reply> {
+    heap.unreserve();
+    if let Some(id) = id {
+        if heap.has(*id) {
+            return None;
+        }
+    }
+    heap.new_shared(alloc, t, *id, layout, actions).ok()
+}
+
+/// A heap with one block, and the block.
+fn heap_of_one(alloc: Global, t: ThreadNo, letters: &str) -> Option<(Heap, Option<BlockId>)> {
+    let id = Some(BlockId {
+        thread: t,
+        serial: 0,
+    });
+    let mut heap = Heap::new(alloc, Options::usual()).ok()?;
+    let layout = Layout::parse(alloc, letters).ok()?;
+    let reply = born(alloc, &mut heap, t, &id, &layout, &ActionList::new())?;
+    let id = block(&reply);
+    Some((heap, id))
+}
+
+#[test]
+fn misuses_of_words(rt: HostRuntime) -> Result<(), Fail> {
+    let t = ThreadNo::new(1).expect(&rt, "a thread");
+    let (mut heap, id) = heap_of_one(rt.alloc(), t, "SPW").expect(&rt, "a heap");
+    let id = &id;
+    for (from, at, wrong) in [
+        (&None, 9, Some(Misuse::NullBlock)),
+        (id, 3, Some(Misuse::NoWord)),
+        (id, 2, Some(Misuse::WrongClass)),
+    ] {
+        let loaded = load(&mut heap, t, from, at).expect(&rt, "memory");
+        let stored = store(&mut heap, t, from, at, id).expect(&rt, "memory");
+        let put = put(&mut heap, t, from, at, 5).expect(&rt, "a reply");
+        let got = read(&heap, t, from, at).expect(&rt, "a reply");
+        for reply in [&loaded, &stored, &put, &got] {
+            assert_eq!(rt; misuse(reply), wrong);
+        }
+    }
+    Ok(())
+}
+
+#[test]
+fn words_are_read_and_written(rt: HostRuntime) -> Result<(), Fail> {
+    let t = ThreadNo::new(1).expect(&rt, "a thread");
+    let (mut heap, id) = heap_of_one(rt.alloc(), t, "SPW").expect(&rt, "a heap");
+    let id = &id;
+    let before = load(&mut heap, t, id, 0).expect(&rt, "memory");
+    assert_eq!(rt; block(&before), None);
+    store(&mut heap, t, id, 0, id).expect(&rt, "memory");
+    let after = load(&mut heap, t, id, 0).expect(&rt, "memory");
+    assert_eq!(rt; block(&after), *id);
+    put(&mut heap, t, id, 1, 7).expect(&rt, "a reply");
+    let got = read(&heap, t, id, 1).expect(&rt, "a reply");
+    assert_eq!(rt; number(&got), Some(7));
+    Ok(())
+}
+
+#[test]
+fn roots_hold_blocks(rt: HostRuntime) -> Result<(), Fail> {
+    let t = ThreadNo::new(2).expect(&rt, "a thread");
+    let (mut heap, id) = heap_of_one(rt.alloc(), t, "S").expect(&rt, "a heap");
+    for value in [&id, &None] {
+        set_root(&mut heap, t, RootNo(255), value).expect(&rt, "a reply");
+        let reply = heap.get_root(t, RootNo(255)).expect(&rt, "memory");
+        assert_eq!(rt; block(&reply), *value);
+    }
+    Ok(())
+}
+
+#[test]
+fn statistics_are_kept(rt: HostRuntime) -> Result<(), Fail> {
+    let t = ThreadNo::new(2).expect(&rt, "a thread");
+    let (heap, _id) = heap_of_one(rt.alloc(), t, "SSS").expect(&rt, "a heap");
+    assert_eq!(rt; heap.stats().blocks, 1);
+    assert_eq!(rt; heap.stats().quanta, 2);
+    assert_eq!(rt; heap.used(), 2);
+    Ok(())
+}
+
+#[test]
+fn misuses_of_births(rt: HostRuntime) -> Result<(), Fail> {
+    let alloc = rt.alloc();
+    let t = ThreadNo::new(1).expect(&rt, "a thread");
+    let id = &Some(BlockId {
+        thread: t,
+        serial: 0,
+    });
+    let mut options = Options::usual();
+    options.heap_quanta = 1;
+    let mut heap = Heap::new(alloc, options).expect(&rt, "memory");
+    let layout = Layout::parse(alloc, "PSSS")?;
+    let past = Action::Pass(RootNo(0), 4);
+    let plain = Action::Pass(RootNo(0), 0);
+    for (action, id, wrong) in [
+        (past, &None, Misuse::NoWord),
+        (plain, &None, Misuse::WrongClass),
+        (Action::Keep(RootNo(0)), &None, Misuse::SerialsUsed),
+        (Action::Pass(RootNo(0), 3), id, Misuse::ZoneFull),
+    ] {
+        let actions = ActionList::from_slice(&[plain, action]).expect(&rt, "two actions");
+        let single = ActionList::from_slice(&[action]).expect(&rt, "an action");
+        let actions = if wrong == Misuse::NoWord {
+            actions
+        } else {
+            single
+        };
+        let reply = born(alloc, &mut heap, t, id, &layout, &actions).expect(&rt, "a reply");
+        assert_eq!(rt; misuse(&reply), Some(wrong));
+    }
+    assert_eq!(rt; heap.stats().blocks, 0);
+    Ok(())
+}
+
+#[test]
+fn a_block_escapes(rt: HostRuntime) -> Result<(), Fail> {
+    let alloc = rt.alloc();
+    let t = ThreadNo::new(16).expect(&rt, "a thread");
+    let id = BlockId {
+        thread: t,
+        serial: 0,
+    };
+    let mut heap = Heap::new(alloc, Options::usual()).expect(&rt, "memory");
+    let layout = Layout::unscanned(2)?;
+    let words = layout.first_words(alloc).expect(&rt, "memory");
+    let quanta = layout.quanta();
+    heap.reserve_admit(alloc, &[2]).expect(&rt, "memory");
+    if heap.has(id) || heap.used() + quanta > heap.options().heap_quanta {
+        return Err(Fail::from("no room"));
+    }
+    heap.admit(id, layout, words);
+    assert!(rt; heap.has(id));
+    heap.hold_count(t, id, 3).expect(&rt, "memory");
+    let reply = read(&heap, t, &Some(id), 1).expect(&rt, "a reply");
+    assert_eq!(rt; number(&reply), Some(0));
+    assert_eq!(rt;
+        heap.word_misuse(Some(id), 1, Class::Strong),
+        Some(Misuse::WrongClass)
+    );
+    assert_eq!(rt; heap.stats().blocks, 1);
+    Ok(())
+}

@@ -1,0 +1,6 @@
+pub mod Locs
+pub mod Agrees
+pub mod Lists
+pub mod Grouped
+pub mod Seats
+pub mod Shows

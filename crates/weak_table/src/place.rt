@@ -1,0 +1,70 @@
+//! The places of locations.
+ghost use Rattle.std.specs.Prelude.{◌≡◌, ◌<◌, ◌≤◌, None, Some, IsSome, IfNone};
+ghost use Rattle.indexmap.specs.IndexMap.{spare};
+ghost use Rattle.std.specs.Map.{lookup};
+ghost use Rattle.weak_table.specs.Locs.{same_loc, Puts};
+
+use az_base::{BlockId, WeakLoc};
+use indexmap::IndexMap;
+use std::marker::Model;
+
+/// Where a location is listed: its group, and its place in the list of that group.
+#[derive(Clone, Copy)]
+pub struct Place {
+    pub group: BlockId,
+    pub at: usize,
+}
+
+impl Model for Place {
+    ghost use Rattle.weak_table.specs.Seats.{Seat, coded_seat};
+
+    ghost Value = { Seat };
+
+    ghost coded = { coded_seat };
+
+    ghost view = { λ p. record { group = p.group; at = p.at } };
+
+    ghost inverse = { λ p. record { group = p.group; at = p.at } };
+}
+
+/// The location's place. O(1).
+pub fn place_of(places: &IndexMap<WeakLoc, Place>, loc: WeakLoc) -> Option<Place>
+    ensures { result ≡ lookup (same_loc loc) places.now.entries }
+{
+    match places.get(&loc) {
+        Some(place) => Some(*place),
+        None => None,
+    }
+}
+
+/// The location gets its first place. O(1), in the room that there is.
+pub fn put_place(places: &mut IndexMap<WeakLoc, Place>, loc: WeakLoc, place: Place)
+    requires { 0 < spare places.old }
+    ensures { Puts loc (Some place) places.old.entries places.new.entries }
+{
+    let Ok(_) = places.insert(loc, place) else {
+        unreachable!()
+    };
+}
+
+/// The location gets another place. O(1).
+pub fn change_place(places: &mut IndexMap<WeakLoc, Place>, loc: WeakLoc, place: Place)
+    requires { IsSome (lookup (same_loc loc) places.old.entries) }
+    ensures puts { Puts loc (Some place) places.old.entries places.new.entries }
+    ensures spare { spare places.new ≡ spare places.old }
+{
+    let Some(kept) = places.get_mut(&loc) else {
+        unreachable!()
+    };
+    *kept = place;
+}
+
+/// The location loses its place, if it has one. O(1).
+pub fn take_place(places: &mut IndexMap<WeakLoc, Place>, loc: WeakLoc) -> Option<Place>
+    ensures place { result ≡ lookup (same_loc loc) places.old.entries }
+    ensures puts { Puts loc None places.old.entries places.new.entries }
+    ensures unchanged { IfNone result (places.new.entries ≡ places.old.entries) }
+    ensures spare { spare places.old ≤ spare places.new }
+{
+    places.swap_remove(&loc)
+}
