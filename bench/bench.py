@@ -28,9 +28,9 @@ def long_lines():
 
 
 def comments():
-    """Comments as long as a line may be, up to the limit of bytes."""
-    line = "#" + "x" * 8191 + "\n"
-    return line * (MOST_BYTES // len(line))
+    """Comments and blanks as long as a line may be, up to the limit of bytes."""
+    lines = "#" + "x" * 8191 + "\n" + " " * 8192 + "\n"
+    return lines * (MOST_BYTES // len(lines))
 
 
 def large_blocks():

@@ -113,6 +113,28 @@ fn statuses_and_texts(rt: HostRuntime) -> Result<(), Fail> {
 }
 
 #[test]
+fn reads_and_writes_may_fail_at_any_turn(rt: HostRuntime) -> Result<(), Fail> {
+    for turn in 1..=2 {
+        let (status, out, err) = ran(&rt, &["play"], FIRST.as_bytes(), turn, 0)?;
+        assert_eq!(rt; status, Status::ReadFault);
+        assert_eq!(rt; out.as_str(), "");
+        assert_eq!(rt; err.as_str(), "autozone: read fault\n");
+    }
+    // The text has 108 bytes, and the sink takes ten at each turn.
+    for turn in 1..=11 {
+        let (status, out, err) = ran(&rt, &["play"], FIRST.as_bytes(), 0, turn)?;
+        assert_eq!(rt; status, Status::WriteFault);
+        assert_eq!(rt; out.as_str().len() as u64, (turn - 1) * 10);
+        assert!(rt; FIRST_TEXT.starts_with(out.as_str()));
+        assert_eq!(rt; err.as_str(), "autozone: write fault\n");
+    }
+    let (status, out, _) = ran(&rt, &["play"], FIRST.as_bytes(), 3, 12)?;
+    assert_eq!(rt; status, Status::Done);
+    assert_eq!(rt; out.as_str(), FIRST_TEXT);
+    Ok(())
+}
+
+#[test]
 fn a_script_may_have_so_many_bytes(rt: HostRuntime) -> Result<(), Fail> {
     for (size, status) in [
         (4_194_304, Status::ScriptRefused),
