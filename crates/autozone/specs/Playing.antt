@@ -1,6 +1,7 @@
 -- Histories as the plain zone makes them: of one thread
 use Rattle.std.specs.Prelude.{◌≡◌, ◌++◌, ◌∷◌, ℕ, List, [], All, map}
 use Rattle.az_base.specs.declared.options.Options.{Options}
+use Rattle.heap_script.specs.Scripts.{IsBuilt}
 use Rattle.zone_model.specs.declared.act.Act.{Act}
 use Rattle.zone_model.specs.declared.act.Act.TheVariants as act
 use Rattle.zone_model.specs.declared.call.Call.{Call}
@@ -11,19 +12,9 @@ use Rattle.zone_model.specs.State.{State}
 use Rattle.zone_model.specs.Stats.{stats_of}
 use Rattle.zone_model.specs.History.{Ends, calls_of}
 
--- a call that is built
+-- a call that scripts can ask for
 abbrev pub IsBuiltCall : Call → Type 0
-IsBuiltCall (call.New to layout actions) = Unit {0}
-IsBuiltCall (call.Load to from at) = Unit {0}
-IsBuiltCall (call.Store into at from) = Unit {0}
-IsBuiltCall (call.Put into at number) = Unit {0}
-IsBuiltCall (call.Get from at) = Unit {0}
-IsBuiltCall (call.Copy to from) = Unit {0}
-IsBuiltCall (call.DropReg reg) = Unit {0}
-IsBuiltCall (call.SetRoot root from) = Unit {0}
-IsBuiltCall (call.GetRoot to root) = Unit {0}
-IsBuiltCall call.Stats = Unit {0}
-IsBuiltCall _ = ⊥
+IsBuiltCall c = IsBuilt (act.Call c)
 
 -- what is asked for is one call, and this one
 abbrev pub asked : List Call → List Act
