@@ -238,11 +238,6 @@ fn worked_scripts(rt: HostRuntime) -> Result<(), Fail> {
             "1 new r0 scanned 1\n1 setroot g255 r0\n1 new r1 unscanned 1\n1 new r2 scanned 1\n1 store r2 0 r1\n1 store r0 0 r2\n1 put r1 0 18446744073709551615\n1 get r1 0\n1 put r0 0 1\n1 stats\n1 store r0 0 r15\n1 load r1 r0 0\n",
             "1 new r0 scanned 1 = 1.0\n1 setroot g255 r0 = ok\n1 new r1 unscanned 1 = 1.1\n1 new r2 scanned 1 = 1.2\n1 store r2 0 r1 = ok\n1 store r0 0 r2 = ok\n1 put r1 0 18446744073709551615 = ok\n1 get r1 0 = 18446744073709551615\n1 put r0 0 1 = misuse 3 WrongClass\n1 stats = blocks 3 quanta 3 retained 0 weak 0 assocs 0\n1 store r0 0 r15 = ok\n1 load r1 r0 0 = null\n1 leave = reclaimed none\nend entries 13 blocks 3 quanta 3 retained 0 weak 0 assocs 0\n",
         ),
-        // A finaliser's block is born escaped; what it passes must be a Strong word.
-        (
-            "option heap 1\n1 new r0 object SP pass g1 2\n1 new r0 object SP keep g0 pass g1 1\n1 new r0 object SP keep g0 pass g1 0\n1 new r1 object P keep g0\n1 copy r2 r0\n1 load r0 r2 0\n",
-            "option heap 1\n1 new r0 object SP pass g1 2 = misuse 2 NoWord\n1 new r0 object SP keep g0 pass g1 1 = misuse 3 WrongClass\n1 new r0 object SP keep g0 pass g1 0 = 1.0\n1 new r1 object P keep g0 = misuse 7 ZoneFull\n1 copy r2 r0 = ok\n1 load r0 r2 0 = null\n1 leave = reclaimed none\nend entries 7 blocks 1 quanta 1 retained 0 weak 0 assocs 0\n",
-        ),
     ];
     for (script, text) in &rows {
         let (status, out, err) = ran(&rt, &["play"], script.as_bytes(), 0, 0)?;
@@ -273,7 +268,7 @@ fn a_tree_of_1000_blocks_escapes_in_one_call(rt: HostRuntime) -> Result<(), Fail
 
 #[test]
 fn scripts_are_refused(rt: HostRuntime) -> Result<(), Fail> {
-    let rows: [(&[u8], &str); 7] = [
+    let rows: [(&[u8], &str); 8] = [
         (
             b"1 new r0 scanned 4097\n",
             "autozone: line 1: WrongArgument\n",
@@ -289,6 +284,10 @@ fn scripts_are_refused(rt: HostRuntime) -> Result<(), Fail> {
         (b"17 stats\n", "autozone: line 1: NoThread\n"),
         (b"1 mark\n", "autozone: line 1: NoCall\n"),
         (b"1 stats now\n", "autozone: line 1: TooManyArguments\n"),
+        (
+            b"1 new r0 object SP keep g3\n",
+            "autozone: line 1: TooManyArguments\n",
+        ),
         (b"1 stats\noption heap 1\n", "autozone: line 2: NoThread\n"),
     ];
     for (script, text) in &rows {

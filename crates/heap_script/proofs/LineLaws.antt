@@ -1,5 +1,5 @@
 -- What is read is a call line of the grammar, and each call line of the grammar is read.
-use Rattle.std.proofs.Common.{◌≡◌, ℕ, zero, suc, inl, inr, List, [], ◌∷◌, Option, Some, None, Result, Ok, Err, refl, sym, ap, ◌∙◌, subst}
+use Rattle.std.proofs.Common.{true, ◌≡◌, ℕ, zero, suc, inl, inr, List, [], ◌∷◌, Option, Some, None, Result, Ok, Err, refl, sym, ap, ◌∙◌, subst}
 use Rattle.std.proofs.lemmas.Bool.{eq-eqb}
 use Rattle.az_base.specs.declared.action.Action.{Action}
 use Rattle.az_base.specs.declared.action.Action.TheVariants as action
@@ -22,14 +22,14 @@ use Rattle.heap_script.specs.declared.keywords.LayoutName.TheVariants as layout
 use Rattle.heap_script.specs.declared.keywords.Verb.{Verb}
 use Rattle.heap_script.specs.declared.keywords.Verb.TheVariants as verb
 use Rattle.heap_script.specs.declared.line.Line.{Line}
-use Rattle.heap_script.specs.Names.{layout_of, layout_text, verb_of, verb_text, collect_of, collect_text}
-use Rattle.heap_script.specs.Built.{built_name}
+use Rattle.heap_script.specs.Names.{layout_of, layout_text, verb_text, collect_of, collect_text}
+use Rattle.heap_script.specs.Built.{is_built_verb, built_name, built_verb}
 use Rattle.heap_script.specs.Pieces.{thread_of, reg_of, root_of, weak_of, key_of, block_of, object_of}
 use Rattle.heap_script.specs.Arguments.{Argument, Register, Root, AssocKey, Place, Number, Id, Location, Memory, Collection, Said, AllSaid, arguments_of, act_of}
 use Rattle.heap_script.specs.Reading.{next_as, no_more, place_at, location_by, location_at, action_by, begun_by, next_action, onto_actions, actions_at, memory_by, memory_at, argument_at, arguments_at, act_at, same_thread, line_at, line_of}
 use Rattle.heap_script.specs.Grammar.{OneWord, IsLettered, IsPlace, IsId, IsObject, LocationAt, ActionAt, NoAction, ActionsAt, kind_of, LayoutAt, MemoryAt, ArgumentAt, ArgumentsAt, IsOnly, LineAt, IsLine}
 use Rattle.heap_script.proofs.Steps.{bind_ok, bind_err, ok_same, ok_is_not_err, next_ok, next_err, whole_ok}
-use Rattle.heap_script.proofs.WordLaws.{one_ok, one_from, verb_ok, verb_from, collect_ok, collect_from, built_name_ok, built_name_from, layout_name_ok, layout_name_from, reg_ok, reg_from, root_ok, root_from, weak_ok, weak_from, reg_is_not_weak, key_ok, key_from, id_ok, id_from_parts, object_ok, object_from}
+use Rattle.heap_script.proofs.WordLaws.{one_ok, one_from, built_verb_ok, built_verb_from, collect_ok, collect_from, built_name_ok, built_name_from, layout_name_ok, layout_name_from, reg_ok, reg_from, root_ok, root_from, weak_ok, weak_from, reg_is_not_weak, key_ok, key_from, id_ok, id_from_parts, object_ok, object_from}
 use Rattle.heap_script.proofs.Facts.{same_only}
 
 -- places
@@ -86,21 +86,21 @@ location_err [] d e = cc
 location_err (word ∷ words) d e = located_err (weak_of word) (reg_of word) words d e
 
 -- actions
-action_ok : (numbers : NumbersAreRead) → (verb : Verb) (words : List (List ℕ)) (x : Action × List (List ℕ)) → action_by verb words ≡ Ok x → ActionAt (verb_text verb ∷ words) x.0 x.1
+action_ok : (numbers : NumbersAreRead) → (verb : Verb) (words : List (List ℕ)) (x : Action × List (List ℕ)) → is_built_verb verb ≡ true → action_by verb words ≡ Ok x → ActionAt (verb_text verb ∷ words) x.0 x.1
 unfolding action_by
-action_ok numbers verb.Keep words x e =
+action_ok numbers verb.Keep words x built e =
     let a = bind_ok (next_as root_of WrongArgument words) _ x e in
     let r = next_ok root_of WrongArgument words a.0 a.1 in
     let P : Action × List (List ℕ) → Type 0 = λ y. ActionAt (verb_text verb.Keep ∷ words) y.0 y.1 in
-    let start : P (action.Keep a.0.0, a.0.1) = (r.0, ap (λ ws. verb_text verb.Keep ∷ ws) r.1, root_ok numbers r.0 a.0.0 r.2) in
+    let start : P (action.Keep a.0.0, a.0.1) = (r.0, ap (λ ws. verb_text verb.Keep ∷ ws) r.1, root_ok numbers r.0 a.0.0 r.2, built) in
     subst P (ok_same _ x a.2) start
-action_ok numbers verb.Pass words x e =
+action_ok numbers verb.Pass words x built e =
     let a = bind_ok (next_as root_of WrongArgument words) _ x e in
     let r = next_ok root_of WrongArgument words a.0 a.1 in
     let b = bind_ok (place_at a.0.1) _ x a.2 in
     let p = place_ok numbers a.0.1 b.0 b.1 in
     let P : Action × List (List ℕ) → Type 0 = λ y. ActionAt (verb_text verb.Pass ∷ words) y.0 y.1 in
-    let start : P (action.Pass a.0.0 b.0.0, b.0.1) = (r.0, p.0, ap (λ ws. verb_text verb.Pass ∷ ws) (r.1 ∙ ap (λ ws. r.0 ∷ ws) p.1), root_ok numbers r.0 a.0.0 r.2, p.2) in
+    let start : P (action.Pass a.0.0 b.0.0, b.0.1) = (r.0, p.0, ap (λ ws. verb_text verb.Pass ∷ ws) (r.1 ∙ ap (λ ws. r.0 ∷ ws) p.1), root_ok numbers r.0 a.0.0 r.2, p.2, built) in
     subst P (ok_same _ x b.2) start
 
 action_err : (verb : Verb) (words : List (List ℕ)) (d : Cause) → action_by verb words ≡ Err d → WrongArgument ≡ d
@@ -128,12 +128,12 @@ Begun words (Some a) left = ActionAt words a left
 head_same : (a b : List ℕ) (xs ys : List (List ℕ)) → a ∷ xs ≡ b ∷ ys → a ≡ b
 head_same a b xs ys e = cc
 
-no_verb : (word : List ℕ) (words : List (List ℕ)) → verb_of word ≡ None → NoAction (word ∷ words)
-no_verb word words e = λ verb others spelled.
-    let some : verb_of word ≡ Some verb = ap verb_of (head_same word (verb_text verb) words others spelled) ∙ verb_from verb in
+no_verb : (word : List ℕ) (words : List (List ℕ)) → built_verb word ≡ None → NoAction (word ∷ words)
+no_verb word words e = λ verb others built spelled.
+    let some : built_verb word ≡ Some verb = ap built_verb (head_same word (verb_text verb) words others spelled) ∙ built_verb_from verb built in
     absurd (cc)
 
-begun_ok : (numbers : NumbersAreRead) → (word : List ℕ) (words : List (List ℕ)) (v : Option Verb) (x : Option Action × List (List ℕ)) → verb_of word ≡ v
+begun_ok : (numbers : NumbersAreRead) → (word : List ℕ) (words : List (List ℕ)) (v : Option Verb) (x : Option Action × List (List ℕ)) → built_verb word ≡ v
     → begun_by v (word ∷ words) words ≡ Ok x → Begun (word ∷ words) x.0 x.1
 unfolding Begun
 begun_ok numbers word words None x is e =
@@ -143,11 +143,11 @@ begun_ok numbers word words None x is e =
 begun_ok numbers word words (Some v) x is e =
     let a = bind_ok (action_by v words) _ x e in
     let P : Option Action × List (List ℕ) → Type 0 = λ y. Begun (word ∷ words) y.0 y.1 in
-    let start : P (Some a.0.0, a.0.1) = subst (λ (w : List ℕ). ActionAt (w ∷ words) a.0.0 a.0.1) (sym (verb_ok word v is)) (action_ok numbers v words a.0 a.1) in
+    let start : P (Some a.0.0, a.0.1) = subst (λ (w : List ℕ). ActionAt (w ∷ words) a.0.0 a.0.1) (sym (built_verb_ok word v is).0) (action_ok numbers v words a.0 (built_verb_ok word v is).1 a.1) in
     subst P (ok_same _ x a.2) start
 
 nothing_begins : NoAction []
-nothing_begins = λ verb others e. absurd (cc)
+nothing_begins = λ verb others built e. absurd (cc)
 
 next_action_ok : (numbers : NumbersAreRead) → (words : List (List ℕ)) (x : Option Action × List (List ℕ)) → next_action words ≡ Ok x → Begun words x.0 x.1
 unfolding next_action Begun
@@ -155,7 +155,7 @@ next_action_ok numbers [] x e =
     let P : Option Action × List (List ℕ) → Type 0 = λ y. Begun [] y.0 y.1 in
     let start : P (None, []) = (refl, nothing_begins) in
     subst P (ok_same _ x e) start
-next_action_ok numbers (word ∷ words) x e = begun_ok numbers word words (verb_of word) x refl e
+next_action_ok numbers (word ∷ words) x e = begun_ok numbers word words (built_verb word) x refl e
 
 begun_err : (v : Option Verb) (here words : List (List ℕ)) (d : Cause) → begun_by v here words ≡ Err d → WrongArgument ≡ d
 begun_err None here words d e = absurd (ok_is_not_err _ d e)
@@ -168,25 +168,25 @@ begun_err (Some v) here words d e =
 next_action_err : (words : List (List ℕ)) (d : Cause) → next_action words ≡ Err d → WrongArgument ≡ d
 unfolding next_action
 next_action_err [] d e = absurd (ok_is_not_err _ d e)
-next_action_err (word ∷ words) d e = begun_err (verb_of word) (word ∷ words) words d e
+next_action_err (word ∷ words) d e = begun_err (built_verb word) (word ∷ words) words d e
 
-none_by : (word : List ℕ) (words : List (List ℕ)) (v : Option Verb) → verb_of word ≡ v → NoAction (word ∷ words) → begun_by v (word ∷ words) words ≡ Ok (None, word ∷ words)
+none_by : (word : List ℕ) (words : List (List ℕ)) (v : Option Verb) → built_verb word ≡ v → NoAction (word ∷ words) → begun_by v (word ∷ words) words ≡ Ok (None, word ∷ words)
 none_by word words None is h = refl
-none_by word words (Some v) is h = absurd (h v words (ap (λ w. w ∷ words) (verb_ok word v is)))
+none_by word words (Some v) is h = absurd (h v words (built_verb_ok word v is).1 (ap (λ w. w ∷ words) (built_verb_ok word v is).0))
 
 no_action : (words : List (List ℕ)) → NoAction words → next_action words ≡ Ok (None, words)
 unfolding next_action
 no_action [] h = refl
-no_action (word ∷ words) h = none_by word words (verb_of word) refl h
+no_action (word ∷ words) h = none_by word words (built_verb word) refl h
 
 action_from : (numbers : NumbersAreRead) → (words : List (List ℕ)) (a : Action) (left : List (List ℕ)) → ActionAt words a left → next_action words ≡ Ok (Some a, left)
 unfolding next_action action_by
 action_from numbers words (action.Keep root) left h =
-    rw (h.1, verb_from verb.Keep, one_from root_of (λ w (g : RootNo). IsLettered 103 255 w g.0) WrongArgument (root_from numbers) (h.0 ∷ left) root left (h.0, refl, h.2)) refl
+    rw (h.1, built_verb_from verb.Keep h.3, one_from root_of (λ w (g : RootNo). IsLettered 103 255 w g.0) WrongArgument (root_from numbers) (h.0 ∷ left) root left (h.0, refl, h.2)) refl
 action_from numbers words (action.Pass root at) left h =
     rw (
       h.2,
-      verb_from verb.Pass,
+      built_verb_from verb.Pass h.5,
       one_from root_of (λ w (g : RootNo). IsLettered 103 255 w g.0) WrongArgument (root_from numbers) (h.0 ∷ h.1 ∷ left) root (h.1 ∷ left) (h.0, refl, h.3),
       place_from numbers (h.1 ∷ left) at left (h.1, refl, h.4),
     ) refl

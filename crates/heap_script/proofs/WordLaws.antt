@@ -27,7 +27,7 @@ use Rattle.heap_script.specs.declared.keywords.Verb.TheVariants as verb
 use Rattle.heap_script.specs.declared.keywords.CollectName.{CollectName}
 use Rattle.heap_script.specs.declared.keywords.CollectName.TheVariants as kind
 use Rattle.heap_script.specs.Names.{name_among, name_text, all_names, name_of, layout_text, layout_of, verb_text, verb_of, collect_text, collect_of}
-use Rattle.heap_script.specs.Built.{where_built, is_built, built_name}
+use Rattle.heap_script.specs.Built.{where_built, is_built, is_built_verb, built_name, built_verb}
 use Rattle.heap_script.specs.Pieces.{lettered, reg_of, root_of, weak_of, key_of, id_from, id_by, block_of, object_of}
 use Rattle.heap_script.specs.Reading.{next_as}
 use Rattle.heap_script.specs.Grammar.{OneWord, IsLettered, IsId, IsObject}
@@ -131,6 +131,16 @@ built_name_ok word name e =
 pub built_name_from : (name : CallName) → is_built name ≡ true → built_name (name_text name) ≡ Some name
 unfolding built_name
 built_name_from name is = rw (name_from name, is) refl
+
+pub built_verb_ok : (word : List ℕ) (v : Verb) → built_verb word ≡ Some v → (word ≡ verb_text v) × (is_built_verb v ≡ true)
+unfolding built_verb
+built_verb_ok word v e =
+    let p = where_ok is_built_verb (verb_of word) v e in
+    (verb_ok word v p.0, p.1)
+
+pub built_verb_from : (v : Verb) → is_built_verb v ≡ true → built_verb (verb_text v) ≡ Some v
+unfolding built_verb
+built_verb_from v is = rw (verb_from v, is) refl
 
 -- a letter and a numeral
 lettered_ok : (numbers : NumbersAreRead) → (letter high : ℕ) (word : List ℕ) (n : ℕ) → lettered letter high word ≡ Some n → IsLettered letter high word n

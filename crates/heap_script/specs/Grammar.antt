@@ -23,12 +23,13 @@ use Rattle.heap_script.specs.declared.entries.Entry.TheVariants as entry
 use Rattle.heap_script.specs.declared.keywords.LayoutName.{LayoutName}
 use Rattle.heap_script.specs.declared.keywords.LayoutName.TheVariants as layout
 use Rattle.heap_script.specs.declared.keywords.Verb.{Verb}
+use Rattle.heap_script.specs.declared.keywords.Verb.TheVariants as verb
 use Rattle.heap_script.specs.declared.line.Line.{Line}
 use Rattle.heap_script.specs.declared.script.Script.{Script}
 use Rattle.heap_script.specs.declared.setting.OptionName.{OptionName}
 use Rattle.heap_script.specs.declared.setting.Setting.{Setting}
 use Rattle.heap_script.specs.Names.{name_text, layout_text, verb_text, collect_text}
-use Rattle.heap_script.specs.Built.{is_built}
+use Rattle.heap_script.specs.Built.{is_built, is_built_verb}
 use Rattle.heap_script.specs.Arguments.{Argument, Register, Root, AssocKey, Place, Number, Id, Location, Memory, Collection, Said, AllSaid, arguments_of, act_of}
 use Rattle.heap_script.specs.Settings.{option_text, least, largest, setting_to}
 use Rattle.heap_script.specs.Reading.{is_skipped, after_option, first_thread, thread_after, options_after, calls_of, Refusal}
@@ -58,15 +59,15 @@ abbrev pub LocationAt : List (List ℕ) → Loc → List (List ℕ) → Type 0
 LocationAt words (loc.Root root) left = (word : List ℕ) × (words ≡ word ∷ left) × IsLettered 119 255 word root.0
 LocationAt words (loc.Word reg at) left = (first : List ℕ) × (second : List ℕ) × (words ≡ first ∷ second ∷ left) × IsLettered 114 15 first reg × IsPlace second at
 
--- an action: keep and a root, or pass, a root and a place
+-- an action that is built: keep and a root, or pass, a root and a place
 abbrev pub ActionAt : List (List ℕ) → Action → List (List ℕ) → Type 0
-ActionAt words (action.Keep root) left = (first : List ℕ) × (words ≡ codes "keep" ∷ first ∷ left) × IsLettered 103 255 first root.0
+ActionAt words (action.Keep root) left = (first : List ℕ) × (words ≡ codes "keep" ∷ first ∷ left) × IsLettered 103 255 first root.0 × (is_built_verb verb.Keep ≡ true)
 ActionAt words (action.Pass root at) left =
-    (first : List ℕ) × (second : List ℕ) × (words ≡ codes "pass" ∷ first ∷ second ∷ left) × IsLettered 103 255 first root.0 × IsPlace second at
+    (first : List ℕ) × (second : List ℕ) × (words ≡ codes "pass" ∷ first ∷ second ∷ left) × IsLettered 103 255 first root.0 × IsPlace second at × (is_built_verb verb.Pass ≡ true)
 
 -- no word begins an action here
 abbrev pub NoAction : List (List ℕ) → Type 0
-NoAction words = (verb : Verb) (others : List (List ℕ)) → ¬ (words ≡ verb_text verb ∷ others)
+NoAction words = (kind : Verb) (others : List (List ℕ)) → is_built_verb kind ≡ true → ¬ (words ≡ verb_text kind ∷ others)
 
 -- up to so many actions, as long as a word begins one
 abbrev pub ActionsAt : ℕ → List (List ℕ) → List Action → List (List ℕ) → Type 0

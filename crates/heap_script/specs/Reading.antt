@@ -28,8 +28,8 @@ use Rattle.heap_script.specs.declared.keywords.Verb.TheVariants as verb
 use Rattle.heap_script.specs.declared.line.Line.{Line}
 use Rattle.heap_script.specs.declared.script.Script.{Script}
 use Rattle.heap_script.specs.declared.setting.Setting.{Setting}
-use Rattle.heap_script.specs.Names.{layout_of, verb_of, collect_of}
-use Rattle.heap_script.specs.Built.{built_name}
+use Rattle.heap_script.specs.Names.{layout_of, collect_of}
+use Rattle.heap_script.specs.Built.{built_name, built_verb}
 use Rattle.heap_script.specs.Pieces.{thread_of, reg_of, root_of, weak_of, key_of, block_of, object_of}
 use Rattle.heap_script.specs.Arguments.{Argument, Register, Root, AssocKey, Place, Number, Id, Location, Memory, Collection, Said, AllSaid, arguments_of, act_of}
 use Rattle.heap_script.specs.Settings.{option_of, least, largest, setting_to, with_setting}
@@ -121,7 +121,7 @@ begun_by (Some verb) here after = do
 -- the next action, where one begins here
 unfoldable pub next_action : List (List ℕ) → Result (Option Action × List (List ℕ)) Cause
 next_action [] = Ok (None, [])
-next_action (word ∷ words) = begun_by (verb_of word) (word ∷ words) words
+next_action (word ∷ words) = begun_by (built_verb word) (word ∷ words) words
 
 -- an action and those that are read after it
 abbrev pub onto_actions : Option Action → List (List ℕ) → (List (List ℕ) → Result (List Action × List (List ℕ)) Cause) → Result (List Action × List (List ℕ)) Cause

@@ -4,8 +4,9 @@ ghost use Rattle.heap_script.specs.Pieces.{object_of};
 ghost use Rattle.heap_script.specs.Reading.{Reads, Gives, Takes, said_or, next_as, action_by, next_action, actions_at, memory_by, memory_at};
 ghost use Rattle.heap_script.specs.declared.cause.Cause.TheVariants.{WrongArgument};
 
+use crate::built::built_verb;
 use crate::cause::{Cause, LineErr};
-use crate::keywords::{LayoutName, Verb, action_verb};
+use crate::keywords::{LayoutName, Verb};
 use crate::pieces::{next_layout_name, next_number, next_place, next_root};
 use az_base::Action;
 use az_words::Words;
@@ -63,7 +64,7 @@ fn next_action(words: &mut Words) -> Result<Option<Action>, Cause>
     let Some(word) = words.peek() else {
         return Ok(None);
     };
-    let Some(verb) = action_verb(word) else {
+    let Some(verb) = built_verb(word) else {
         return Ok(None);
     };
     words.next();
