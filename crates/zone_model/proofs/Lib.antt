@@ -6,3 +6,6 @@ pub mod Totals
 pub mod Births
 pub mod Runs
 pub mod Leaving
+pub mod WeakSteps
+pub mod WeakRuns
+pub mod WeakLaws

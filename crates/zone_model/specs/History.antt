@@ -1,5 +1,6 @@
 -- Histories: which are legal, and which are those of a script's lines
-use Rattle.std.specs.Prelude.{◌≡◌, ◌⊎◌, ℕ, ◌==◌, List, [], ◌∷◌, ◌++◌, map, filter, replicate}
+use Rattle.std.specs.Prelude.{◌≡◌, ◌⊎◌, ℕ, ◌==◌, Bool, true, false, List, [], ◌∷◌, ◌++◌, map, filter, replicate, IsFalse}
+use Rattle.std.specs.List.{list_any}
 use Rattle.az_base.specs.declared.action.Mode.{Mode}
 use Rattle.az_base.specs.declared.options.Options.{Options}
 use Rattle.zone_model.specs.declared.act.Act.{Act}
@@ -23,6 +24,18 @@ Ends o history z = Run (opening o) history z
 -- the history runs from the opening state
 abbrev pub Legal : Options → List Entry → Type 0
 Legal o history = (z : State) × Ends o history z
+
+-- the call is a step of a collection's cycle (a local collection has none)
+abbrev pub is_cycle_step : Call → Bool
+is_cycle_step (call.Begin mode) = true
+is_cycle_step call.Condemn = true
+is_cycle_step call.Finalise = true
+is_cycle_step call.Reclaim = true
+is_cycle_step _ = false
+
+-- no call of the history is a step of a collection's cycle
+abbrev pub NoCollection : List Entry → Type 0
+NoCollection history = IsFalse (list_any (λ e. is_cycle_step e.call) history)
 
 -- the entries of a thread, in order
 abbrev pub entries_of : ℕ → List Entry → List Entry

@@ -1,11 +1,15 @@
 //! Theorems over the definitions. Each is the contract of a function that does nothing.
-ghost use Rattle.std.specs.Prelude.{◌≡◌, List, [], ◌∷◌};
+ghost use Rattle.std.specs.Prelude.{◌≡◌, ◌↔◌, List, [], ◌∷◌, Option};
+ghost use Rattle.std.specs.FinMap.{get};
+ghost use Rattle.az_base.specs.declared.block_id.BlockId.{BlockId};
 ghost use Rattle.az_base.specs.declared.options.Options.{Options};
+ghost use Rattle.az_base.specs.declared.weak_loc.WeakLoc.{WeakLoc};
 ghost use Rattle.az_base.specs.OptionRanges.{usual_options};
 ghost use Rattle.zone_model.specs.declared.entry.Entry.{Entry};
 ghost use Rattle.zone_model.specs.State.{State};
 ghost use Rattle.zone_model.specs.Step.{Step};
-ghost use Rattle.zone_model.specs.History.{Ends, Legal};
+ghost use Rattle.zone_model.specs.History.{Ends, Legal, NoCollection};
+ghost use Rattle.zone_model.specs.WeakShows.{WeakShows};
 ghost use Rattle.zone_model.specs.Worked.{first_block, first_history};
 
 /// A thread may make a block and leave, and its block is then reclaimed.
@@ -26,4 +30,9 @@ pub fn steps_are_determined()
 /// The entries of a history determine its last state.
 pub fn histories_end_once()
     ensures { (o : Options) (history : List Entry) (a b : State) → Ends o history a → Ends o history b → a ≡ b }
+{}
+
+/// In a legal history without a collection, each weak location shows exactly what the entries say of it.
+pub fn weak_locations_show_what_was_assigned()
+    ensures { (o : Options) (history : List Entry) (z : State) (l : WeakLoc) (v : Option BlockId) → NoCollection history → Ends o history z → WeakShows o history l v ↔ (v ≡ get z.weak l) }
 {}
