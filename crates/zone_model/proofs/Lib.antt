@@ -6,6 +6,7 @@ pub mod Totals
 pub mod Births
 pub mod Runs
 pub mod Leaving
+pub mod Made
 pub mod WeakSteps
 pub mod WeakRuns
 pub mod WeakLaws

@@ -193,6 +193,11 @@ with_cycle z c = record z { cycle = c }
 abbrev pub without_blocks : State → List BlockId → State
 without_blocks z ids = record z { blocks = retain_keys z.blocks (λ id. not (among ids id)) }
 
+-- the weak location is a weak root, or a word of a block that is there
+abbrev pub is_there : State → WeakLoc → Bool
+is_there z (weak.Root w) = true
+is_there z (weak.Word b i) = is_some (get z.blocks b)
+
 -- the weak location is a word of one of these blocks
 abbrev pub is_word_of : List BlockId → WeakLoc → Bool
 is_word_of ids (weak.Root w) = false

@@ -1,12 +1,12 @@
 //! Theorems over the definitions. Each is the contract of a function that does nothing.
-ghost use Rattle.std.specs.Prelude.{◌≡◌, ◌↔◌, List, [], ◌∷◌, Option};
+ghost use Rattle.std.specs.Prelude.{◌≡◌, ◌↔◌, List, [], ◌∷◌, Option, IsTrue};
 ghost use Rattle.std.specs.FinMap.{get};
 ghost use Rattle.az_base.specs.declared.block_id.BlockId.{BlockId};
 ghost use Rattle.az_base.specs.declared.options.Options.{Options};
 ghost use Rattle.az_base.specs.declared.weak_loc.WeakLoc.{WeakLoc};
 ghost use Rattle.az_base.specs.OptionRanges.{usual_options};
 ghost use Rattle.zone_model.specs.declared.entry.Entry.{Entry};
-ghost use Rattle.zone_model.specs.State.{State};
+ghost use Rattle.zone_model.specs.State.{State, is_there};
 ghost use Rattle.zone_model.specs.Step.{Step};
 ghost use Rattle.zone_model.specs.History.{Ends, Legal, NoCollection};
 ghost use Rattle.zone_model.specs.WeakShows.{WeakShows};
@@ -32,7 +32,12 @@ pub fn histories_end_once()
     ensures { (o : Options) (history : List Entry) (a b : State) → Ends o history a → Ends o history b → a ≡ b }
 {}
 
-/// In a legal history without a collection, each weak location shows exactly what the entries say of it.
+/// In each state of a legal history, a weak location that is there shows exactly what the entries say of it.
 pub fn weak_locations_show_what_was_assigned()
-    ensures { (o : Options) (history : List Entry) (z : State) (l : WeakLoc) (v : Option BlockId) → NoCollection history → Ends o history z → WeakShows o history l v ↔ (v ≡ get z.weak l) }
+    ensures { (o : Options) (history : List Entry) (z : State) (l : WeakLoc) (v : Option BlockId) → Ends o history z → IsTrue (is_there z l) → WeakShows o history l v ↔ (v ≡ get z.weak l) }
+{}
+
+/// Without a collection, so does every weak location, also one whose block is gone.
+pub fn weak_locations_stay_without_collections()
+    ensures { (o : Options) (history : List Entry) (z : State) (l : WeakLoc) (v : Option BlockId) → Ends o history z → NoCollection history → WeakShows o history l v ↔ (v ≡ get z.weak l) }
 {}

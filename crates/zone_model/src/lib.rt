@@ -23,7 +23,7 @@ pub use call::{Call, Loc};
 pub use entry::{Entry, Reply, Stats};
 pub use laws::{
     first_history_is_legal, first_history_must_reclaim, histories_end_once, steps_are_determined,
-    weak_locations_show_what_was_assigned,
+    weak_locations_show_what_was_assigned, weak_locations_stay_without_collections,
 };
 pub use lists::{ActionList, IdList};
 
