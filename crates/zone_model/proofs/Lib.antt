@@ -10,3 +10,4 @@ pub mod Made
 pub mod WeakSteps
 pub mod WeakRuns
 pub mod WeakLaws
+pub mod WeakHistory

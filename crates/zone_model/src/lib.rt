@@ -24,6 +24,7 @@ pub use entry::{Entry, Reply, Stats};
 pub use laws::{
     first_history_is_legal, first_history_must_reclaim, histories_end_once, steps_are_determined,
     weak_locations_show_what_was_assigned, weak_locations_stay_without_collections,
+    weak_root_shows_the_last_assignment,
 };
 pub use lists::{ActionList, IdList};
 
