@@ -14,11 +14,11 @@ use Rattle.az_base.specs.Ids.{id_cmp, same_id, id_of, ids_total, exact_ids}
 use Rattle.block_layouts.specs.declared.layout.Layout.{Layout}
 use Rattle.block_layouts.specs.Layouts.{first_words}
 use Rattle.zone_model.specs.Maps.{get-map_values}
-use Rattle.zone_model.specs.State.{State, Block, with_edit, with_root, with_word, with_register, opening}
+use Rattle.zone_model.specs.State.{State, Block, moment, with_edit, with_root, with_word, with_register, opening}
 use Rattle.zone_model.specs.Escape.{with_escaped}
 use Rattle.zone_model.specs.Effect.{new_block, with_new}
 use Rattle.zone_model.specs.Quanta.{is_born_escaped}
-use Rattle.zone_model.specs.Step.{seen_now}
+use Rattle.zone_model.specs.Step.{seen_now, with_seen}
 use Rattle.shared_heap.specs.Holds.{Holds}
 use Rattle.shared_heap.specs.Stored.{Kept}
 use Rattle.shared_heap.specs.Shared.{Shared, new_heap, rooted, written, newly, with_birth, admitted, holding_more}
@@ -37,19 +37,20 @@ opening_stands o = record {
   blocks = λ q. get-empty id_cmp q ∙ sym (ap (escaped_view 0) (get-empty id_cmp q));
   roots = λ g l. nulls 256 g l;
   counts = refl;
-  weak = refl;
   assocs = refl;
+  weak = refl;
+  cycle = refl;
 }
 
 -- who holds what, and what a cycle has seen, are no part of it
 pub holds_stand : (h : Shared) (z : State) (m : FinMap id_cmp Holds) → Stands h z → Stands (record h { holds = m }) z
-holds_stand h z m s = record { options = s.options; blocks = s.blocks; roots = s.roots; counts = s.counts; weak = s.weak; assocs = s.assocs }
+holds_stand h z m s = record { options = s.options; blocks = s.blocks; roots = s.roots; counts = s.counts; assocs = s.assocs; weak = s.weak; cycle = s.cycle }
 
 pub seen_stands : (h : Shared) (z : State) → Stands h z → Stands h (seen_now z)
-seen_stands h z s = record { options = s.options; blocks = s.blocks; roots = s.roots; counts = s.counts; weak = s.weak; assocs = s.assocs }
+seen_stands h z s = record { options = s.options; blocks = s.blocks; roots = s.roots; counts = s.counts; assocs = s.assocs; weak = s.weak; cycle = ap (option_map (with_seen (moment z))) s.cycle }
 
 pub register_stands : (h : Shared) (z : State) (t r : ℕ) (v : Option BlockId) → Stands h z → Stands h (with_register z t r v)
-register_stands h z t r v s = record { options = s.options; blocks = s.blocks; roots = s.roots; counts = s.counts; weak = s.weak; assocs = s.assocs }
+register_stands h z t r v s = record { options = s.options; blocks = s.blocks; roots = s.roots; counts = s.counts; assocs = s.assocs; weak = s.weak; cycle = s.cycle }
 
 pub more_stands : (h : Shared) (z : State) (t : ℕ) (v : Option BlockId) → Stands h z → Stands (holding_more h t v) z
 more_stands h z t None s = s
@@ -75,8 +76,9 @@ root_stands h z g v all l s = record {
   blocks = s.blocks;
   roots = λ k lk. get_set h.roots g k v (omega arith) ∙ ap (cond (g == k) (Some v)) (s.roots k lk) ∙ joined k (g == k);
   counts = s.counts;
-  weak = s.weak;
   assocs = s.assocs;
+  weak = s.weak;
+  cycle = s.cycle;
 }
   where
     joined : (k : ℕ) (t : Bool) → cond t (Some v) (Some (z.roots k)) ≡ Some (cond t v (z.roots k))
@@ -112,8 +114,9 @@ word_stands h z id at w s = record {
   blocks = λ q. edit_get h.blocks id change q ∙ ap (λ o. cond (same_id q id) (option_map change o) o) (s.blocks q) ∙ edited (same_id q id) (get z.blocks q) ∙ sym (ap (escaped_view z.reclaims) (edit_get z.blocks id alter q));
   roots = s.roots;
   counts = s.counts;
-  weak = s.weak;
   assocs = s.assocs;
+  weak = s.weak;
+  cycle = s.cycle;
 }
   where
     change : Kept → Kept
@@ -146,8 +149,9 @@ birth_stands h z t to layout actions born s = record {
       ∙ sym (ap (escaped_view z.reclaims) (get-insert ids_total z.blocks id (new_block z t layout actions) q));
   roots = s.roots;
   counts = s.counts;
-  weak = s.weak;
   assocs = s.assocs;
+  weak = s.weak;
+  cycle = s.cycle;
 }
   where
     id : BlockId
@@ -172,8 +176,9 @@ admit_stands h z id layout words is s = record {
       ∙ sym (ap (escaped_view z.reclaims) (get-map_values id_cmp _ exact_ids z.blocks q));
   roots = s.roots;
   counts = s.counts;
-  weak = s.weak;
   assocs = s.assocs;
+  weak = s.weak;
+  cycle = s.cycle;
 }
   where
     escape : BlockId → Block → Block

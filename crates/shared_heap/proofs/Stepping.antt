@@ -5,9 +5,7 @@ use Rattle.std.proofs.lemmas.Grind.{common_steps}
 use Rattle.std.proofs.lemmas.Option.{slice_get_cases}
 use Rattle.std.specs.Result.{result_err}
 use Rattle.std.specs.Option.{option_map_or, option_and_then}
-use Rattle.std.specs.FinMap.{get, len, len-empty}
-use Rattle.az_base.specs.Ids.{id_cmp}
-use Rattle.az_base.specs.Places.{loc_cmp, pair_cmp}
+use Rattle.std.specs.FinMap.{get, len}
 use Rattle.zone_model.specs.declared.entry.Stats.{Stats}
 use Rattle.zone_model.specs.Stats.{stats_of}
 use Rattle.az_base.specs.declared.block_id.BlockId.{BlockId}
@@ -158,7 +156,7 @@ module _ (h new : Shared) (z : State) (t reg at : ℕ) (a : Option BlockId) (run
   written_stands w is = rw (is, holds) (go a)
     where
       go : (a : Option BlockId) → Stands (written h a at w) (with_word z a at w)
-      go None = record { options = runs.stands.options; blocks = runs.stands.blocks; roots = runs.stands.roots; counts = runs.stands.counts; weak = runs.stands.weak; assocs = runs.stands.assocs }
+      go None = record { options = runs.stands.options; blocks = runs.stands.blocks; roots = runs.stands.roots; counts = runs.stands.counts; assocs = runs.stands.assocs; weak = runs.stands.weak; cycle = runs.stands.cycle }
       go (Some id) = word_stands h z id at w runs.stands
 
   pub put_step : (n : ℕ) → word_misuse h a at class.Plain ≡ None → new ≡ written h a at (word.Number n) → Stepped new z t (call.Put reg at n) reply.Done
@@ -239,9 +237,9 @@ stats_are : (h : Shared) (z : State) → Stands h z → stats_in h ≡ stats_of 
 stats_are h z s = λ i. record {
   blocks = sym (number_stands h z s) i;
   quanta = sym (used_stands h z s) i;
-  retained = sym (ap len s.counts ∙ len-empty id_cmp ℕ) i;
-  weak = sym (ap len s.weak ∙ len-empty loc_cmp BlockId) i;
-  assocs = sym (ap len s.assocs ∙ len-empty pair_cmp BlockId) i;
+  retained = sym (ap len s.counts) i;
+  weak = sym (ap len s.weak) i;
+  assocs = sym (ap len s.assocs) i;
 }
 
 pub stats_step : (h : Shared) (z : State) (t : ℕ) (stats : Stats) → Runs h z t → stats ≡ stats_in h → Stepped h z t call.Stats (reply.Stats stats)

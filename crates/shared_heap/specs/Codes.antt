@@ -15,11 +15,14 @@ use Rattle.az_base.specs.declared.word.Word.{Word}
 use Rattle.az_base.specs.declared.word.Word.TheVariants as word
 use Rattle.az_base.specs.Id.{coded_id}
 use Rattle.az_base.specs.Ids.{id_cmp}
+use Rattle.az_base.specs.Places.{pair_cmp, loc_cmp}
 use Rattle.block_layouts.specs.declared.layout.Layout.{Layout}
 use Rattle.block_layouts.specs.declared.layout.Shape.TheVariants as shape
+use Rattle.weak_table.specs.Locs.{coded_loc}
 use Rattle.shared_heap.specs.Holds.{Holds}
 use Rattle.shared_heap.specs.Stored.{Kept, Held}
 use Rattle.shared_heap.specs.Table.{Table}
+use Rattle.shared_heap.specs.Ready.{Ready, coded_ready}
 use Rattle.shared_heap.specs.Shared.{Shared}
 
 abbrev pub coded_options : Coded Options
@@ -111,8 +114,22 @@ abbrev pub coded_table : Coded Table
 coded_table = code_by (FinMap id_cmp Kept × (FinMap id_cmp Holds × ℕ)) (coded× (map.code coded_id coded_kept) (coded× (map.code coded_id coded_holds) coded_ℕ))
     (λ t. (t.blocks, (t.holds, t.spare))) (λ p. record { blocks = p.0; holds = p.1.0; spare = p.1.1 }) (λ _. refl)
 
+-- of the counts, the associations and the weak locations
+abbrev coded_counts : Coded (FinMap id_cmp ℕ)
+coded_counts = map.code coded_id coded_ℕ
+
+abbrev coded_assocs : Coded (FinMap pair_cmp BlockId)
+coded_assocs = map.code (coded× coded_id coded_ℕ) coded_id
+
+abbrev coded_weak : Coded (FinMap loc_cmp BlockId)
+coded_weak = map.code coded_loc coded_id
+
+-- the tables
+abbrev Tables : Type 0
+Tables = FinMap id_cmp ℕ × (FinMap pair_cmp BlockId × FinMap loc_cmp BlockId)
+
 abbrev pub coded_shared : Coded Shared
-coded_shared = code_by (Options × (FinMap id_cmp Kept × (FinMap id_cmp Holds × (List (Option BlockId) × List ℕ))))
-    (coded× coded_options (coded× (map.code coded_id coded_kept) (coded× (map.code coded_id coded_holds) (coded× (coded_list (coded_option coded_id)) (coded_list coded_ℕ)))))
-    (λ h. (h.options, (h.blocks, (h.holds, (h.roots, h.room)))))
-    (λ p. record { options = p.0; blocks = p.1.0; holds = p.1.1.0; roots = p.1.1.1.0; room = p.1.1.1.1 }) (λ _. refl)
+coded_shared = code_by (Options × (FinMap id_cmp Kept × (FinMap id_cmp Holds × (List (Option BlockId) × (Tables × (Ready × List ℕ))))))
+    (coded× coded_options (coded× (map.code coded_id coded_kept) (coded× (map.code coded_id coded_holds) (coded× (coded_list (coded_option coded_id)) (coded× (coded× coded_counts (coded× coded_assocs coded_weak)) (coded× coded_ready (coded_list coded_ℕ)))))))
+    (λ h. (h.options, (h.blocks, (h.holds, (h.roots, ((h.counts, (h.assocs, h.weak)), (h.ready, h.room)))))))
+    (λ p. record { options = p.0; blocks = p.1.0; holds = p.1.1.0; roots = p.1.1.1.0; counts = p.1.1.1.1.0.0; assocs = p.1.1.1.1.0.1.0; weak = p.1.1.1.1.0.1.1; ready = p.1.1.1.1.1.0; room = p.1.1.1.1.1.1 }) (λ _. refl)

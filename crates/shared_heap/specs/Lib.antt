@@ -2,6 +2,7 @@ pub mod Holds
 pub mod Whole
 pub mod Stored
 pub mod Table
+pub mod Ready
 pub mod Shared
 pub mod Codes
 pub mod Inside

@@ -1,18 +1,20 @@
 -- What a heap holds
 use Rattle.std.specs.Prelude.{◌≡◌, ℕ, ◌+◌, List, [], Option, Some, None, false, slice_set, drop, replicate}
 use Rattle.std.specs.Option.{option_map_or}
-use Rattle.std.specs.FinMap.{FinMap, get, insert, empty}
+use Rattle.std.specs.FinMap.{FinMap, get, insert, empty, len}
 use Rattle.az_base.specs.declared.action.Action.{Action}
 use Rattle.az_base.specs.declared.block_id.BlockId.{BlockId}
 use Rattle.az_base.specs.declared.options.Options.{Options}
 use Rattle.az_base.specs.declared.word.Word.{Word}
 use Rattle.az_base.specs.Ids.{id_cmp}
+use Rattle.az_base.specs.Places.{pair_cmp, loc_cmp}
 use Rattle.block_layouts.specs.declared.layout.Layout.{Layout}
 use Rattle.block_layouts.specs.Layouts.{len_of, quanta, first_words}
 use Rattle.zone_model.specs.declared.entry.Stats.{Stats}
 use Rattle.zone_model.specs.Maps.{total}
 use Rattle.zone_model.specs.State.{with_edit}
 use Rattle.shared_heap.specs.Holds.{Holds, times, with_times}
+use Rattle.shared_heap.specs.Ready.{Ready, unready, with_room}
 use Rattle.shared_heap.specs.Stored.{Kept}
 
 pub record Shared : Type 0 where
@@ -22,6 +24,14 @@ pub record Shared : Type 0 where
   pub holds : FinMap id_cmp Holds
   -- of 256
   pub roots : List (Option BlockId)
+  -- the positive external retain counts
+  pub counts : FinMap id_cmp ℕ
+  -- the associations, by object and key
+  pub assocs : FinMap pair_cmp BlockId
+  -- the weak locations that show a block
+  pub weak : FinMap loc_cmp BlockId
+  -- for which calls there is room
+  pub ready : Ready
   -- the lengths of the blocks for which there is room, next first
   pub room : List ℕ
 
@@ -41,13 +51,17 @@ used_by blocks = total (λ id k. quanta (len_of k.layout)) blocks
 abbrev pub number_of : FinMap id_cmp Kept → ℕ
 number_of blocks = total (λ id k. 1) blocks
 
--- the statistics, while there are no counts, weak locations or associations
+-- the statistics: the blocks, their quanta, the blocks with a positive count, the weak locations that show a block, and the associations
 abbrev pub stats_in : Shared → Stats
-stats_in h = record { blocks = number_of h.blocks; quanta = used_by h.blocks; retained = 0; weak = 0; assocs = 0 }
+stats_in h = record { blocks = number_of h.blocks; quanta = used_by h.blocks; retained = len h.counts; weak = len h.weak; assocs = len h.assocs }
 
--- no blocks, and all roots null
+-- no blocks, all roots null, and all else empty
 abbrev pub new_heap : Options → Shared
-new_heap o = record { options = o; blocks = empty; holds = empty; roots = replicate 256 None; room = [] }
+new_heap o = record { options = o; blocks = empty; holds = empty; roots = replicate 256 None; counts = empty; assocs = empty; weak = empty; ready = unready; room = [] }
+
+-- there is room for one more block with a count, and for the object and the value where they are given
+abbrev pub readied : Shared → Option BlockId → Option BlockId → Shared
+readied h object value = record h { ready = with_room h.ready object value }
 
 -- the root holds the block, or null
 abbrev pub rooted : Shared → ℕ → Option BlockId → Shared

@@ -1,6 +1,6 @@
 -- Which states a heap stands for
-use Rattle.std.specs.Prelude.{◌≡◌, ◌<◌, ◌-◌, ℕ, min, Option, Some, IsTrue, option_map, option_and_then, slice_get}
-use Rattle.std.specs.FinMap.{get, empty}
+use Rattle.std.specs.Prelude.{◌≡◌, ◌<◌, ◌-◌, ℕ, min, Option, None, Some, IsTrue, option_map, option_and_then, slice_get}
+use Rattle.std.specs.FinMap.{get}
 use Rattle.az_base.specs.declared.block_id.BlockId.{BlockId}
 use Rattle.zone_model.specs.State.{State, Block, is_escaped}
 use Rattle.zone_model.specs.Reach.{Edge}
@@ -15,14 +15,16 @@ kept_of reclaims b = option_map (λ since. record { layout = b.layout; words = b
 abbrev pub escaped_view : ℕ → Option Block → Option Kept
 escaped_view reclaims o = option_and_then (kept_of reclaims) o
 
--- the escaped blocks, the roots and the options are those of the state, which has no counts, weak locations or associations
+-- the escaped blocks, the roots, the options and the tables are those of the state, which has no open cycle
 pub record Stands (h : Shared) (z : State) : Type 0 where
   pub options : z.options ≡ h.options
   pub blocks : (q : BlockId) → get h.blocks q ≡ escaped_view z.reclaims (get z.blocks q)
   pub roots : (g : ℕ) → g < 256 → slice_get h.roots g ≡ Some (z.roots g)
-  pub counts : z.counts ≡ empty
-  pub weak : z.weak ≡ empty
-  pub assocs : z.assocs ≡ empty
+  pub counts : z.counts ≡ h.counts
+  pub assocs : z.assocs ≡ h.assocs
+  pub weak : z.weak ≡ h.weak
+  -- there is no collection yet
+  pub cycle : z.cycle ≡ None
 
 -- what holds between calls, as far as the calls rest on it: no escaped block refers to an unescaped one, and roots hold escaped blocks
 pub record Sound (z : State) : Type 0 where

@@ -12,22 +12,29 @@ ghost use Rattle.shared_heap.specs.Steps.{Runs, Stepped};
 
 mod admission;
 mod births;
+mod ready;
 mod roots;
 mod words;
 
 use crate::blocks::Blocks;
+use assoc_refs::Assocs;
 use az_base::{BlockId, NoMemory, Options};
+use retain_table::Counts;
 use std::alloc::Global;
 use std::marker::Model;
+use weak_table::Weak;
 use zone_model::Stats;
 
-/// The escaped blocks and the roots of a zone. A block that a call is given is one of the heap's, unless the call says
+/// The escaped blocks, the roots and the tables of a zone. A block that a call is given is one of the heap's, unless the call says
 /// otherwise.
 #[derive(Drop)]
 pub struct Heap {
     options: Options,
     blocks: Blocks,
     roots: Vec<Option<BlockId>>,
+    counts: Counts,
+    assocs: Assocs,
+    weak: Weak,
     /// The small quanta of the blocks.
     used: u32,
     /// How many blocks there are.
@@ -48,13 +55,13 @@ impl Model for Heap {
 
     ghost use Rattle.shared_heap.specs.Inside.{IsHeap};
 
-    ghost view = { λ h. record { options = h.options; blocks = h.blocks.blocks; holds = h.blocks.holds; roots = h.roots.items; room = drop h.taken h.room.items } };
+    ghost view = { λ h. record { options = h.options; blocks = h.blocks.blocks; holds = h.blocks.holds; roots = h.roots.items; counts = h.counts.counts; assocs = h.assocs.pairs; weak = h.weak.shown; ready = record { counts = h.counts.spare; object = h.assocs.ready; value = h.weak.ready }; room = drop h.taken h.room.items } };
 
     ghost invariant = { IsHeap };
 }
 
 impl Heap {
-    /// A heap with no block, and with null roots.
+    /// A heap with no block, with null roots, and with empty tables.
     pub fn new(alloc: Global, options: Options) -> Result<Heap, NoMemory>
         ensures value { IfOk result (λ h. h ≡ new_heap options) }
         ensures stands { IfOk result (λ h. Stands h (opening options)) }
@@ -66,6 +73,9 @@ impl Heap {
             options,
             blocks: Blocks::new(alloc),
             roots,
+            counts: Counts::new(alloc),
+            assocs: Assocs::new(alloc),
+            weak: Weak::new(alloc),
             used: 0,
             number: 0,
             room: Vec::new(alloc),
@@ -106,9 +116,9 @@ impl Heap {
         Stats {
             blocks: u64::from(self.number),
             quanta: u64::from(self.used),
-            retained: 0,
-            weak: 0,
-            assocs: 0,
+            retained: self.counts.len() as u64,
+            weak: self.weak.registered() as u64,
+            assocs: self.assocs.len() as u64,
         }
     }
 }

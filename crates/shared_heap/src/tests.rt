@@ -212,31 +212,65 @@ fn misuses_of_births(rt: HostRuntime) -> Result<(), Fail> {
     Ok(())
 }
 
+/// Two Plain words escape as this block, where they fit.
+fn admit_two(alloc: Global, heap: &mut Heap, id: &BlockId) -> Option<()> {
+    let layout = Layout::unscanned(2).ok()?;
+    let words = layout.first_words(alloc).ok()?;
+    heap.unreserve();
+    heap.reserve_admit(alloc, &[2]).ok()?;
+    let used = u64::from(heap.used()) + u64::from(layout.quanta());
+    if heap.has(*id) || used > u64::from(heap.options().heap_quanta) {
+        return None;
+    }
+    heap.admit(*id, layout, words);
+    Some(())
+}
+
 #[test]
 fn a_block_escapes(rt: HostRuntime) -> Result<(), Fail> {
-    let alloc = rt.alloc();
     let t = ThreadNo::new(16).expect(&rt, "a thread");
     let id = BlockId {
         thread: t,
         serial: 0,
     };
-    let mut heap = Heap::new(alloc, Options::usual()).expect(&rt, "memory");
-    let layout = Layout::unscanned(2)?;
-    let words = layout.first_words(alloc).expect(&rt, "memory");
-    let quanta = layout.quanta();
-    heap.reserve_admit(alloc, &[2]).expect(&rt, "memory");
-    if heap.has(id) || heap.used() + quanta > heap.options().heap_quanta {
-        return Err(Fail::from("no room"));
-    }
-    heap.admit(id, layout, words);
-    assert!(rt; heap.has(id));
-    heap.hold_count(t, id, 3).expect(&rt, "memory");
-    let reply = read(&heap, t, &Some(id), 1).expect(&rt, "a reply");
+    let id = &id;
+    let mut heap = Heap::new(rt.alloc(), Options::usual()).expect(&rt, "memory");
+    admit_two(rt.alloc(), &mut heap, id).expect(&rt, "room");
+    assert!(rt; heap.has(*id));
+    heap.hold_count(t, *id, 3).expect(&rt, "memory");
+    let reply = read(&heap, t, &Some(*id), 1).expect(&rt, "a reply");
     assert_eq!(rt; number(&reply), Some(0));
-    assert_eq!(rt;
-        heap.word_misuse(Some(id), 1, Class::Strong),
-        Some(Misuse::WrongClass)
-    );
+    let misuse = heap.word_misuse(Some(*id), 1, Class::Strong);
+    assert_eq!(rt; misuse, Some(Misuse::WrongClass));
     assert_eq!(rt; heap.stats().blocks, 1);
+    Ok(())
+}
+
+#[test]
+fn an_empty_heap(rt: HostRuntime) -> Result<(), Fail> {
+    let heap = Heap::new(rt.alloc(), Options::usual()).expect(&rt, "memory");
+    let stats = heap.stats();
+    let numbers = [
+        stats.blocks,
+        stats.quanta,
+        stats.retained,
+        stats.weak,
+        stats.assocs,
+    ];
+    for number in numbers {
+        assert_eq!(rt; number, 0);
+    }
+    Ok(())
+}
+
+#[test]
+fn room_is_made_ready(rt: HostRuntime) -> Result<(), Fail> {
+    let t = ThreadNo::new(1).expect(&rt, "a thread");
+    let (mut heap, id) = heap_of_one(rt.alloc(), t, "S").expect(&rt, "a heap");
+    for (object, value) in [(&id, &None), (&None, &id), (&id, &id), (&None, &None)] {
+        heap.ready(t, *object, *value).expect(&rt, "memory");
+    }
+    assert_eq!(rt; heap.stats().blocks, 1);
+    assert_eq!(rt; heap.stats().retained, 0);
     Ok(())
 }
