@@ -1,12 +1,14 @@
 -- Paths by which blocks are kept, in a graph and in a state
-use Rattle.std.proofs.Common.{◌≡◌, Bool, true, false, List, [], ◌∷◌, ◌++◌, refl, sym, ◌∙◌, subst, ◌⊎◌, inl, inr, IsTrue, IsFalse, ◌↔◌}
+use Rattle.std.proofs.Common.{◌≡◌, Bool, true, false, List, [], ◌∷◌, ◌++◌, refl, sym, ap, ◌∙◌, subst, filter, arith, length, ◌≤◌, ◌⊎◌, inl, inr, IsTrue, IsFalse, ◌↔◌}
+use Rattle.std.proofs.lemmas.List.Sums.{length-filter, count_by-le-length}
 use Rattle.az_base.specs.declared.block_id.BlockId.{BlockId}
 use Rattle.az_base.specs.Ids.{among}
 use Rattle.quantum_space.specs.Shapes.{Shape, Has, edges, anchors}
 use Rattle.zone_model.specs.State.{State}
 use Rattle.zone_model.specs.Reach.{Path, Edge}
 use Rattle.zone_model.specs.Collection.{IsKept, Lists}
-use Rattle.finalise_pass.specs.Kept.{EdgeIn, IsKeptIn, ShowsState}
+use Rattle.finalise_pass.specs.Kept.{EdgeIn, IsKeptIn, IsWithin, ShowsState, inside}
+use Rattle.quantum_space.proofs.Lists.{has_among, has_filter, among_has}
 
 pub true_or_not : (t : Bool) → (t ≡ true) ⊎ (t ≡ false)
 true_or_not true = inl refl
@@ -26,6 +28,14 @@ anchor_kept s r a anchor = (a, inl anchor, ([], refl))
 -- what a kept block refers to is kept
 pub edge_kept : (s : Shape) (r : List BlockId) (a b : BlockId) → IsKeptIn s r a → Has (edges s a) b → IsKeptIn s r b
 edge_kept s r a b k e = (k.0, k.1, (k.2.0 ++ b ∷ [], path_on (EdgeIn s) k.0 k.2.0 a b k.2.1 e))
+
+-- those that are all blocks of the graph
+filter_whole : (p : BlockId → Bool) (xs : List BlockId) → ((b : BlockId) → Has xs b → p b ≡ true) → filter p xs ≡ xs
+filter_whole p [] h = refl
+filter_whole p (x ∷ xs) h = rw (h x (inl refl)) (ap (λ ys. x ∷ ys) (filter_whole p xs (λ b k. h b (inr k))))
+
+pub all_inside : (s : Shape) (r : List BlockId) → IsWithin r s.blocks → inside s r ≡ r
+all_inside s r within = filter_whole (among s.blocks) r (λ b h. has_among s.blocks b (within b (has_among r b h)))
 
 module _ (z : State) (s : Shape) (r : List BlockId) (shows : ShowsState z s r) where
   in_state : (a : BlockId) (steps : List BlockId) (b : BlockId) → Path (EdgeIn s) a steps b → Path (Edge z) a steps b
@@ -77,3 +87,15 @@ module _ (z : State) (s : Shape) (r : List BlockId) (shows : ShowsState z s r) w
       (λ y. (k.1 b).1 (y.0, λ h. y.1 (to_state b h))),
     ),
   )
+
+-- what is inside is within
+pub inside_within : (s : Shape) (r : List BlockId) → IsWithin (inside s r) s.blocks
+inside_within s r b t = among_has s.blocks b (has_filter (among s.blocks) r b (among_has (inside s r) b t)).1
+
+pub inside_length : (s : Shape) (r : List BlockId) → length (inside s r) ≤ length r
+inside_length s r = let same = length-filter (among s.blocks) r in let few = count_by-le-length (among s.blocks) r in omega (arith, same, few)
+
+-- a test that tells whether a block is in a list
+pub tells_among : (xs : List BlockId) (b : BlockId) (t : Bool) → IsTrue t ↔ Has xs b → t ≡ among xs b
+tells_among xs b true h = sym (has_among xs b (h.0 refl))
+tells_among xs b false h = elim (true_or_not (among xs b)) [ inl k ↦ let e : false ≡ true = h.1 (among_has xs b k) in cc | inr k ↦ sym k ]

@@ -8,7 +8,7 @@ use Rattle.az_base.specs.Ids.{same_id}
 use Rattle.quantum_space.proofs.Lists.{itself}
 use Rattle.zone_model.specs.State.{is_nil}
 use Rattle.finalise_pass.specs.Finalisers.{Finalisers, awaits, with_action, with_done}
-use Rattle.finalise_pass.specs.Passing.{GoesPast}
+use Rattle.finalise_pass.specs.Passing.{Passing, GoesPast, HasPassed}
 use Rattle.finalise_pass.proofs.Searching.{none_next, none_less, found_passes}
 
 -- actions change roots alone
@@ -45,15 +45,16 @@ done_here : (a d : Bool) → (a && not (true || d)) ≡ false
 done_here true d = refl
 done_here false d = refl
 
-pub run_passed : (id : BlockId) (f : Finalisers) (xs : List BlockId) (ids : List Action) (n : ℕ) → GoesPast (awaits f) xs id n → find (awaits (with_done (fold (with_action id) f ids) id)) (take n xs) ≡ None
-run_passed id f xs ids n past =
+pub run_passed : (id : BlockId) (f : Finalisers) (p : Passing) (ids : List Action) (n : ℕ) → GoesPast (awaits f) p id n → HasPassed p f → find (awaits (with_done (fold (with_action id) f ids) id)) (take n p.condemned) ≡ None
+run_passed id f p ids n past passed =
+    let xs = p.condemned in
     let keep = runs_keep id f ids in
     let after : Finalisers = with_done (fold (with_action id) f ids) id in
     let each : (b : BlockId) → awaits after b ≡ (not (is_nil (f.actions b)) && not (same_id id b || f.done b)) = λ b. ap (λ (a : BlockId → List Action). not (is_nil (a b)) && not (same_id id b || (fold (with_action id) f ids).done b)) keep.0 ∙ ap (λ (d : BlockId → Bool). not (is_nil (f.actions b)) && not (same_id id b || d b)) keep.1 in
     let less : (b : BlockId) → awaits after b ≡ true → awaits f b ≡ true = λ b t. done_less (same_id id b) (not (is_nil (f.actions b))) (f.done b) (sym (each b) ∙ t) in
     let here : awaits after id ≡ false = each id ∙ ap (λ t. not (is_nil (f.actions id)) && not (t || f.done id)) (itself id) ∙ done_here (not (is_nil (f.actions id))) (f.done id) in
     let at : option_map_or (awaits after) (slice_get xs past.place) false ≡ false = ap (λ o. option_map_or (awaits after) o false) past.is ∙ here in
-    subst (λ k. find (awaits after) (take k xs) ≡ None) (sym past.count) (none_next (awaits after) xs past.place (none_less (awaits f) (awaits after) (take past.place xs) less past.before) at)
+    subst (λ k. find (awaits after) (take k xs) ≡ None) (sym past.count) (none_next (awaits after) xs past.place (none_less (awaits f) (awaits after) (take past.place xs) less (past.before passed)) at)
 
 -- a block that awaits its finaliser has an action
 pub has_actions : (f : Finalisers) (xs : List BlockId) (id : BlockId) → find (awaits f) xs ≡ Some id → is_nil (f.actions id) ≡ false

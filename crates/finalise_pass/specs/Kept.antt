@@ -1,5 +1,5 @@
 -- Which condemned blocks are kept
-use Rattle.std.specs.Prelude.{◌≡◌, ◌≢◌, ◌⊎◌, ◌<◌, ℕ, Bool, not, List, Some, slice_get, IsTrue, IsFalse}
+use Rattle.std.specs.Prelude.{◌≡◌, ◌≢◌, ◌⊎◌, ◌<◌, ℕ, Bool, not, List, Some, filter, slice_get, IsTrue, IsFalse}
 use Rattle.az_base.specs.declared.block_id.BlockId.{BlockId}
 use Rattle.az_base.specs.declared.action.Mode.TheVariants as mode
 use Rattle.az_base.specs.Ids.{among}
@@ -21,12 +21,18 @@ IsKeptIn s r b = (a : BlockId) × (Has (anchors s) a ⊎ IsFalse (among r a)) ×
 pub record IsWatched (s : Shape) (r : List BlockId) : Type 0 where
   pub edge : (a b : BlockId) → IsFalse (among r a) → IsTrue (among r b) → Has (edges s a) b → Has s.remembered a ⊎ Has (anchors s) b
 
+-- those of the ids that are blocks of the graph
+abbrev pub inside : Shape → List BlockId → List BlockId
+inside s ids = filter (among s.blocks) ids
+
 -- these are some of the blocks
 abbrev pub IsWithin : List BlockId → List BlockId → Type 0
 IsWithin ids blocks = (b : BlockId) → IsTrue (among ids b) → Has blocks b
 
 -- the graph tells of a state what settling needs
 pub record ShowsState (z : State) (s : Shape) (r : List BlockId) : Type 0 where
+  -- it has the condemned blocks
+  pub within : IsWithin r s.blocks
   -- its edges are edges of the state
   pub inner : (a b : BlockId) → Has (edges s a) b → Edge z a b
   -- an edge of the state into the condemned blocks is one of its own, or leads to an anchor

@@ -19,7 +19,8 @@ mod settling;
 
 pub use finals::Finals;
 pub use laws::{
-    settle_keeps_what_the_definitions_keep, settled_lists_are_those_of_the_definitions,
+    condemned_blocks_are_settled, settle_keeps_what_the_definitions_keep,
+    settled_lists_are_those_of_the_definitions,
 };
 pub use pass::Pass;
 pub use settling::Settled;

@@ -9,7 +9,7 @@ ghost use Rattle.az_base.specs.Ids.{id_cmp, among};
 ghost use Rattle.quantum_space.specs.Shapes.{Has, OnlyShades};
 ghost use Rattle.zone_model.specs.Collection.{Lists};
 ghost use Rattle.gen_marker.specs.Marking.{Tracks, is_white};
-ghost use Rattle.finalise_pass.specs.Kept.{IsApart, IsKeptIn, IsSown, IsWatched, IsWithin, Sows, Seeded, is_dark};
+ghost use Rattle.finalise_pass.specs.Kept.{IsApart, IsKeptIn, IsSown, IsWatched, IsWithin, Sows, Seeded, inside, is_dark};
 
 use az_base::{BlockId, Mode};
 use gen_marker::{Walk, shade_all, shade_these};
@@ -43,6 +43,21 @@ pub fn settle_lists<G: Graph>(graph: &mut G, condemned: IdList, room: IdList) ->
         reclaimed: IdList::from_vec(reclaimed),
         kept,
     }
+}
+
+/// Those of the ids that are blocks of the graph, in the list's own memory.
+pub fn those_inside<G: Graph>(graph: &G, ids: IdList) -> IdList
+    ensures { result.list ≡ inside (G.shape graph.now) ids.list }
+{
+    let mut ids = ids.into_vec();
+    ids.retain(|id| is_inside(graph, *id));
+    IdList::from_vec(ids)
+}
+
+fn is_inside<G: Graph>(graph: &G, id: BlockId) -> bool
+    ensures { result ≡ among (G.shape graph.now).blocks id }
+{
+    graph.has_block(id)
 }
 
 /// The list's memory, with nothing in it.

@@ -1,16 +1,12 @@
 //! Rows of marking, finalising and settling over graphs in memory.
 ghost use Rattle.std.specs.Prelude.{◌≡◌, ◌<◌, IfOk, length};
-ghost use Rattle.std.specs.List.Sorted.{IsStrictlySortedBy};
-ghost use Rattle.az_base.specs.Ids.{id_cmp};
 ghost use Rattle.gen_marker.specs.Marking.{Shut, Tracks};
-ghost use Rattle.finalise_pass.specs.Kept.{IsWithin};
-ghost use Rattle.finalise_pass.specs.Passing.{HasPassed};
 
 use super::*;
 use crate::small_finals::SmallFinals;
 use crate::small_graph::SmallGraph;
 use az_base::{Action, BlockId, Mode, NoMemory, RootNo, Steps, ThreadNo};
-use gen_marker::{Marker, Progress, enlivened_stores_keep_the_tricolour_fact};
+use gen_marker::{Condemned, Marker, Progress, enlivened_stores_keep_the_tricolour_fact};
 use quantum_space::{Graph, Shade};
 use std::alloc::{AllocError, Global};
 use std::marker::Brand;
@@ -22,7 +18,7 @@ use zone_model::{ActionList, IdList};
 #[derive(Drop)]
 struct CycleEnd {
     more: u32,
-    ids: IdList,
+    condemned: Condemned,
 }
 
 /// One slice; whether it left grey blocks.
@@ -50,10 +46,7 @@ fn cycle<L: Ledger>(
     mode: Mode,
     budget: u32,
     steps: &mut Steps<L>,
-) -> Result<CycleEnd, NoMemory>
-    ensures ascending { IfOk result (λ c. IsStrictlySortedBy id_cmp c.ids.list) }
-    ensures within { IfOk result (λ c. IsWithin c.ids.list (⟦<SmallGraph as Graph>⟧.shape graph.new).blocks) }
-{
+) -> Result<CycleEnd, NoMemory> {
     let mut marker = Marker::begin(alloc, graph, mode)?;
     let mut more = 0;
     for n in 0..20_000 {
@@ -62,10 +55,9 @@ fn cycle<L: Ledger>(
         }
         more = n + 1;
     }
-    let condemned = marker.finish(graph, steps);
     Ok(CycleEnd {
         more,
-        ids: condemned.ids,
+        condemned: marker.finish(graph, steps),
     })
 }
 
@@ -75,10 +67,7 @@ fn run_cycle(
     graph: &mut SmallGraph,
     mode: Mode,
     budget: u32,
-) -> Result<CycleEnd, NoMemory>
-    ensures ascending { IfOk result (λ c. IsStrictlySortedBy id_cmp c.ids.list) }
-    ensures within { IfOk result (λ c. IsWithin c.ids.list (⟦<SmallGraph as Graph>⟧.shape graph.new).blocks) }
-{
+) -> Result<CycleEnd, NoMemory> {
     with_blank::<Brand>(alloc, graph, mode, budget, Blank::new(1))
 }
 
@@ -92,8 +81,6 @@ fn with_blank<L: Ledger>(
     requires name { blank.name ≡ L.name }
     requires parts { blank.parts ≡ L.parts }
     requires some { 0 < L.parts }
-    ensures ascending { IfOk result (λ c. IsStrictlySortedBy id_cmp c.ids.list) }
-    ensures within { IfOk result (λ c. IsWithin c.ids.list (⟦<SmallGraph as Graph>⟧.shape graph.new).blocks) }
 {
     let mut steps = Steps::<L>::new(blank);
     cycle(alloc, graph, mode, budget, &mut steps)
@@ -132,18 +119,13 @@ fn run_store(
 }
 
 /// Settles condemned blocks over a graph in which every block is remembered.
-fn settle(graph: &mut SmallGraph, pass: Pass) -> Settled
-    requires { IsWithin pass.condemned (⟦<SmallGraph as Graph>⟧.shape graph.old).blocks }
-{
+fn settle(graph: &mut SmallGraph, pass: Pass) -> Settled {
     graph.remember_all();
     pass.settle(graph)
 }
 
 /// Runs finalisers until none is next; gives how many ran.
-fn finalise(pass: &mut Pass, finals: &mut SmallFinals) -> u32
-    requires { HasPassed pass.old (⟦<SmallFinals as Finals>⟧.finals finals.old) }
-    ensures { pass.new.condemned ≡ pass.old.condemned }
-{
+fn finalise(pass: &mut Pass, finals: &mut SmallFinals) -> u32 {
     let mut ran = 0;
     for n in 0..1_000 {
         if !finalises_one(pass, finals) {
@@ -155,11 +137,7 @@ fn finalise(pass: &mut Pass, finals: &mut SmallFinals) -> u32
 }
 
 /// Runs the finaliser that is next; false where none is.
-fn finalises_one(pass: &mut Pass, finals: &mut SmallFinals) -> bool
-    requires { HasPassed pass.old (⟦<SmallFinals as Finals>⟧.finals finals.old) }
-    ensures condemned { pass.new.condemned ≡ pass.old.condemned }
-    ensures passed { HasPassed pass.new (⟦<SmallFinals as Finals>⟧.finals finals.new) }
-{
+fn finalises_one(pass: &mut Pass, finals: &mut SmallFinals) -> bool {
     match pass.next(finals) {
         Some(id) => {
             pass.apply(id, finals);
@@ -251,22 +229,28 @@ fn condemns_the_white_blocks(rt: HostRuntime) -> Result<(), Fail> {
     let mut graph = graph_of(alloc, &[&[1], &[], &[]], &[0], &[], 0)?;
     let end = run_cycle(alloc, &mut graph, Mode::Full, 1)?;
     assert_eq!(rt; end.more, 1, "a slice of one scan, and a second one");
-    assert!(rt; are(&end.ids, &[2]), "the third block");
+    assert!(rt; are(&end.condemned.ids, &[2]), "the third block");
 
     let mut graph = graph_of(alloc, &[], &[], &[], 0)?;
     let end = run_cycle(alloc, &mut graph, Mode::Full, 1)?;
     assert_eq!(rt; end.more, 0, "an empty graph");
-    assert!(rt; are(&end.ids, &[]), "an empty graph");
+    assert!(rt; are(&end.condemned.ids, &[]), "an empty graph");
 
     let mut graph = graph_of(alloc, &[&[0], &[1]], &[0], &[], 0)?;
     let end = run_cycle(alloc, &mut graph, Mode::Full, 1)?;
     assert_eq!(rt; end.more, 0, "blocks that refer to themselves");
-    assert!(rt; are(&end.ids, &[1]), "blocks that refer to themselves");
+    assert!(rt;
+        are(&end.condemned.ids, &[1]),
+        "blocks that refer to themselves"
+    );
 
     let mut graph = graph_of(alloc, &[&[7, 1], &[9]], &[0, 8], &[], 0)?;
     let end = run_cycle(alloc, &mut graph, Mode::Full, 1)?;
     assert_eq!(rt; end.more, 1, "edges and anchors that weren't there");
-    assert!(rt; are(&end.ids, &[]), "edges and anchors that weren't there");
+    assert!(rt;
+        are(&end.condemned.ids, &[]),
+        "edges and anchors that weren't there"
+    );
     Ok(())
 }
 
@@ -277,7 +261,7 @@ fn young_cycles_take_young_blocks(rt: HostRuntime) -> Result<(), Fail> {
     let end = run_cycle(alloc, &mut graph, Mode::Young, 100)?;
     assert_eq!(rt; end.more, 0);
     assert!(rt;
-        are(&end.ids, &[3]),
+        are(&end.condemned.ids, &[3]),
         "a young block that neither an anchor nor a remembered block keeps"
     );
     Ok(())
@@ -295,7 +279,7 @@ fn walks_a_long_chain_one_by_one(rt: HostRuntime) -> Result<(), Fail> {
     let end = run_cycle(alloc, &mut graph, Mode::Full, 1)?;
     assert_eq!(rt; end.more, 9_999);
     assert!(rt;
-        are(&end.ids, &[10_000]),
+        are(&end.condemned.ids, &[10_000]),
         "the block that isn't in the chain"
     );
     Ok(())
@@ -326,7 +310,7 @@ fn marks_a_large_graph(rt: HostRuntime) -> Result<(), Fail> {
     let mut graph = linked(alloc, 100_002, edges, &[100_000], &[], 0)?;
     let end = run_cycle(alloc, &mut graph, Mode::Full, 1_000)?;
     assert_eq!(rt; end.more, 100);
-    assert!(rt; are(&end.ids, &[100_001]));
+    assert!(rt; are(&end.condemned.ids, &[100_001]));
     Ok(())
 }
 
@@ -337,7 +321,7 @@ fn an_enlivened_store_is_seen(rt: HostRuntime) -> Result<(), Fail> {
     let rows: [&[u32]; 5] = [&[1], &[], &[3], &[], &[]];
     let mut graph = graph_of(alloc, &rows, &[0], &[], 0)?;
     let end = run_cycle(alloc, &mut graph, Mode::Full, 1)?;
-    assert!(rt; are(&end.ids, &[2, 3, 4]), "without a store");
+    assert!(rt; are(&end.condemned.ids, &[2, 3, 4]), "without a store");
     let left = run_store(
         alloc,
         &mut graph,
@@ -357,7 +341,7 @@ fn finalised_blocks_are_kept_with_what_they_reach(rt: HostRuntime) -> Result<(),
     let thread = first_thread()?;
     let mut graph = graph_of(alloc, &[&[], &[2], &[], &[], &[]], &[], &[], 0)?;
     let end = run_cycle(alloc, &mut graph, Mode::Full, 10)?;
-    assert!(rt; are(&end.ids, &[0, 1, 2, 3, 4]));
+    assert!(rt; are(&end.condemned.ids, &[0, 1, 2, 3, 4]));
     let keep = ActionList::from_slice(&[Action::Keep(RootNo(6)), Action::Keep(RootNo(5))]).ok_or(
         "two actions",
     )?;
@@ -375,8 +359,8 @@ fn finalised_blocks_are_kept_with_what_they_reach(rt: HostRuntime) -> Result<(),
         words: ids(alloc, thread, &[0])?,
         done: vec![in alloc; false; 5]?,
     };
-    let room = IdList::with_room(alloc, end.ids.len())?;
-    let mut pass = Pass::new(end.ids, room);
+    let room = IdList::with_room(alloc, end.condemned.ids.len())?;
+    let mut pass = Pass::new(end.condemned, room);
     assert_eq!(rt; finalise(&mut pass, &mut finals), 2);
     assert_eq!(rt;
         finals.roots.get(5).copied(),
@@ -401,13 +385,56 @@ fn a_dead_block_outside_keeps_what_it_refers_to(rt: HostRuntime) -> Result<(), F
     let thread = first_thread()?;
     let mut graph = graph_of(alloc, &[&[], &[2], &[], &[]], &[0], &[], 0)?;
     let end = run_cycle(alloc, &mut graph, Mode::Full, 10)?;
-    assert!(rt; are(&end.ids, &[1, 2, 3]));
-    let room = IdList::with_room(alloc, end.ids.len())?;
-    let pass = Pass::new(end.ids, room);
+    assert!(rt; are(&end.condemned.ids, &[1, 2, 3]));
+    let room = IdList::with_room(alloc, end.condemned.ids.len())?;
+    let pass = Pass::new(end.condemned, room);
     graph.set_anchors(Vec::new(alloc));
     graph.store(BlockId { thread, serial: 0 }, BlockId { thread, serial: 1 })?;
     let settled = settle(&mut graph, pass);
     assert!(rt; are(&settled.kept, &[1, 2]));
     assert!(rt; are(&settled.reclaimed, &[3]));
+    Ok(())
+}
+
+#[test]
+fn ids_that_are_no_blocks_are_not_settled(rt: HostRuntime) -> Result<(), Fail> {
+    let alloc = rt.alloc();
+    let mut graph = graph_of(alloc, &[&[], &[], &[], &[], &[]], &[0], &[], 0)?;
+    let end = run_cycle(alloc, &mut graph, Mode::Full, 10)?;
+    assert!(rt; are(&end.condemned.ids, &[1, 2, 3, 4]));
+    let room = IdList::with_room(alloc, end.condemned.ids.len())?;
+    let pass = Pass::new(end.condemned, room);
+    let mut smaller = graph_of(alloc, &[&[2], &[], &[]], &[], &[], 0)?;
+    let settled = settle(&mut smaller, pass);
+    assert!(rt; are(&settled.kept, &[2]), "what block 0 refers to");
+    assert!(rt; are(&settled.reclaimed, &[1]), "not 3 and 4");
+    Ok(())
+}
+
+#[test]
+fn a_pass_goes_on_where_it_is(rt: HostRuntime) -> Result<(), Fail> {
+    let alloc = rt.alloc();
+    let thread = first_thread()?;
+    let mut graph = graph_of(alloc, &[&[], &[]], &[], &[], 0)?;
+    let end = run_cycle(alloc, &mut graph, Mode::Full, 10)?;
+    let one = ActionList::from_slice(&[Action::Keep(RootNo(1))]).ok_or("one action")?;
+    let two = ActionList::from_slice(&[Action::Keep(RootNo(2))]).ok_or("one action")?;
+    let mut actions = Vec::with_capacity(alloc, 2)?;
+    actions.push(one)?;
+    actions.push(two)?;
+    let mut finals = SmallFinals {
+        thread,
+        roots: vec![in alloc; None; 256]?,
+        actions,
+        words: Vec::new(alloc),
+        done: vec![in alloc; false; 2]?,
+    };
+    let room = IdList::with_room(alloc, end.condemned.ids.len())?;
+    let mut pass = Pass::new(end.condemned, room);
+    let first = pass.next(&finals);
+    assert_eq!(rt; first, Some(BlockId { thread, serial: 0 }));
+    assert_eq!(rt; pass.next(&finals), first, "asking changes nothing");
+    assert_eq!(rt; finalise(&mut pass, &mut finals), 2);
+    assert_eq!(rt; pass.next(&finals), None);
     Ok(())
 }

@@ -1,6 +1,6 @@
 //! One cycle of marking.
 ghost use Rattle.std.specs.Prelude.{◌≡◌, ◌≤◌, ◌+◌, IfOk, IfErr, filter};
-ghost use Rattle.std.specs.List.Sorted.{IsStrictlySortedBy};
+ghost use Rattle.std.specs.List.Sorted.{IsStrictlySortedBy, IsStrictlySortedBy-prop};
 ghost use Rattle.az_base.specs.Ids.{id_cmp};
 ghost use Rattle.gen_marker.specs.Marking.{Tracks, Enlivens, Begun, NoGrey, Finishes, is_left, Shut, Spreads, blacks};
 ghost use Rattle.gen_marker.specs.Progress.{Ends};
@@ -16,10 +16,11 @@ use std::marker::Model;
 use std::sync::ledger::Ledger;
 use zone_model::IdList;
 
-/// What a collection condemns.
+/// What a collection condemns, ascending.
 #[derive(Debug, Drop)]
 pub struct Condemned {
     pub ids: IdList,
+    ghost ascending: { IsStrictlySortedBy id_cmp ids.list } by { IsStrictlySortedBy-prop id_cmp ids.list },
 }
 
 /// A cycle of marking over a graph, from its begin to its finish. Each call wants the graph's blocks, their ages and
@@ -97,7 +98,6 @@ impl Marker {
         requires tracks { Tracks self (G.shape graph.old).blocks (G.shades graph.old) }
         requires shut { Shut self.mode (G.shape graph.old) (G.shades graph.old) }
         ensures ids { result.ids.list ≡ filter (is_left self.mode (G.shape graph.old) (G.shades graph.new)) (G.shape graph.old).blocks }
-        ensures ascending { IsStrictlySortedBy id_cmp result.ids.list }
         ensures shut { Shut self.mode (G.shape graph.new) (G.shades graph.new) }
         ensures no_grey { NoGrey (G.shape graph.new).blocks (G.shades graph.new) }
         ensures finishes { Finishes self.mode (G.shape graph.old) (G.shades graph.old) (G.shades graph.new) }

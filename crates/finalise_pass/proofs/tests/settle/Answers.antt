@@ -1,5 +1,5 @@
 use Rattle.finalise_pass.proofs.Numbered.{all_watched}
 use Rattle.finalise_pass.proofs.tests.settle.Goals as goal
 
-pub settle-requires-clause-watched : goal.settle-requires-clause-watched
-settle-requires-clause-watched c = rw c.remember_all.ensures.all (all_watched _ _ _ _ _ c.remember_all.new.self.some_remembered.items c.args.pass.condemned)
+pub settle-requires : goal.settle-requires
+settle-requires c = rw c.remember_all.ensures.all (all_watched _ _ _ _ _ c.remember_all.new.self.some_remembered.items _)

@@ -15,10 +15,12 @@ returns-clause-ticks g c =
     let t = subst (λ (x : Shape). c.scan_counted.new.steps + blacks x.blocks (g.G.Graph.shades c.grey_anchors.new.graph) ≡ c.args.steps.now + blacks x.blocks (g.G.Graph.shades c.scan_counted.new.graph)) c.grey_anchors.ensures.only.shape c.scan_counted.ensures.ticks in
     omega (arith, same, t)
 
-pub returns-clause-ascending : goal.returns-clause-ascending
-returns-clause-ascending g c =
-    subst (λ xs. IsStrictlySortedBy id_cmp xs) (sym (c.from_vec.ensures.list ∙ c.gather.ensures))
-    (IsStrictlySortedBy-filter _ _ _ (subst (λ (x : Shape). IsStrictlySortedBy id_cmp x.blocks) (sym (c.scan_counted.ensures.only.shape ∙ c.grey_anchors.ensures.only.shape)) c.requires.tracks.ascending))
+pub invariant_of-result : goal.invariant_of-result
+invariant_of-result g c = record {
+  ascending =
+      subst (λ xs. IsStrictlySortedBy id_cmp xs) (sym (c.from_vec.ensures.list ∙ c.gather.ensures))
+      (IsStrictlySortedBy-filter _ _ _ (subst (λ (x : Shape). IsStrictlySortedBy id_cmp x.blocks) (sym (c.scan_counted.ensures.only.shape ∙ c.grey_anchors.ensures.only.shape)) c.requires.tracks.ascending));
+}
 
 pub returns-clause-finishes : goal.returns-clause-finishes
 returns-clause-finishes g c =
