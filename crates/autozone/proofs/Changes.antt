@@ -1,30 +1,38 @@
 -- What a call changes: a register, a root, a word of a block
-use Rattle.std.proofs.Common.{◌≡◌, ℕ, ◌+◌, ◌<◌, ◌≤◌, zero, suc, Bool, true, false, cond, ◌&&◌, ◌==◌, List, [], ◌∷◌, length, Option, Some, None, IsSome, IsTrue, slice_get, slice_set, refl, sym, ap, subst, ◌∙◌, arith, eq-eqb, ◌⊎◌, inl, inr, is_some, is_none}
-use Rattle.std.specs.Option.{option_map, option_map_or, option_and_then}
+use Rattle.std.proofs.Common.{◌≡◌, ℕ, ◌≤◌, Bool, true, false, cond, ◌&&◌, ◌==◌, [], Option, Some, None, IsSome, IsTrue, slice_get, refl, sym, ap, subst, ◌∙◌, arith, eq-eqb, ◌⊎◌, inl, inr, is_some}
+use Rattle.std.specs.Option.{option_map, option_and_then}
 use Rattle.std.specs.declared.cmp.Ordering.{Ordering}
 use Rattle.std.specs.declared.cmp.Ordering.TheVariants.{Less, Equal, Greater}
-use Rattle.std.specs.Ordering.{is_eq, eq_by_cmp}
-use Rattle.std.specs.Cmp.{IsTotalOrder, eq_by_cmp_equiv}
-use Rattle.std.specs.FinMap.{FinMap, get, insert, get-insert, IsAntisymmetric}
+use Rattle.std.specs.Ordering.{is_eq}
+use Rattle.std.specs.FinMap.{get}
 use Rattle.std.specs.BTreeMap as tree
 use Rattle.az_base.specs.declared.block_id.BlockId.{BlockId}
-use Rattle.az_base.specs.declared.word.Class.{Class}
-use Rattle.az_base.specs.declared.word.Class.TheVariants as class
 use Rattle.az_base.specs.declared.word.Word.{Word}
 use Rattle.az_base.specs.declared.word.Word.TheVariants as word
 use Rattle.az_base.specs.Ids.{id_cmp, same_id, ids_total, exact_ids}
-use Rattle.block_layouts.specs.declared.layout.Layout.{Layout}
-use Rattle.block_layouts.specs.Layouts.{class_at, len_of, quanta}
-use Rattle.zone_model.specs.Maps.{total, total-insert, at_value}
-use Rattle.zone_model.specs.State.{State, Block, with_register, with_root, with_word, with_edit, is_escaped}
-use Rattle.zone_model.specs.Quanta.{used_quanta, own_quanta}
+use Rattle.zone_model.specs.State.{State, Block, with_register, with_root, with_word, is_escaped}
 use Rattle.zone_model.specs.Reach.{WordEdge}
-use Rattle.autozone.specs.declared.plain.zone.Held.{Held}
+use Rattle.shared_heap.specs.Stands.{Stands, kept_of, escaped_view}
+use Rattle.shared_heap.specs.Whole.{Takes, Whole}
+use Rattle.autozone.specs.declared.plain.zone.Own.{Own}
 use Rattle.autozone.specs.declared.plain.zone.Plain.{Plain}
-use Rattle.autozone.specs.Registers.{Hold, RootsHold}
-use Rattle.autozone.specs.Soundness.{IsSound, IsThere, Fills}
-use Rattle.autozone.specs.StandsFor.{StandsFor, SameNumbers, seen}
+use Rattle.autozone.specs.Registers.{Hold}
+use Rattle.autozone.specs.Soundness.{IsSound, IsThere}
+use Rattle.autozone.specs.StandsFor.{StandsFor, seen, unescaped}
 use Rattle.autozone.specs.Words.{SetsWord, put_word}
+use Rattle.autozone.proofs.Editing.{get-edit, total-edit, set_or_was, whole_set}
+
+-- what the thread has of its own is the same, but for its registers
+pub record SamePart (p n : Plain) : Type 0 where
+  pub thread : n.thread ≡ p.thread
+  pub options : n.options ≡ p.options
+  pub blocks : n.blocks ≡ p.blocks
+  pub own : n.own ≡ p.own
+  pub serials : n.serials ≡ p.serials
+
+-- the registers hold what they held
+abbrev pub SameHold : Plain → Plain → Type 0
+SameHold p n = (f : ℕ → Option BlockId) → Hold p.registers f → Hold n.registers f
 
 -- what a register of the thread holds
 at_register : (t r q : ℕ) (v o : Option BlockId) → cond (r == q) v o ≡ cond ((t == t) && (r == q)) v o
@@ -34,151 +42,82 @@ either_held : {X : Type 0} (b : Bool) (v o : Option X) (x : X) → cond b v o �
 either_held true v o x h = inl h
 either_held false v o x h = inr h
 
--- nothing but registers has changed
-pub record Registers (p n : Plain) (r : ℕ) (v : Option BlockId) : Type 0 where
-  pub same : SameNumbers p n
-  pub blocks : n.blocks ≡ p.blocks
-  pub roots : n.roots ≡ p.roots
-  pub set : (f : ℕ → Option BlockId) → Hold p.registers f → Hold n.registers (λ q. cond (r == q) v (f q))
-
-pub registered : (p n : Plain) (z : State) (r : ℕ) (v : Option BlockId) → StandsFor p z → Registers p n r v → ((id : BlockId) → v ≡ Some id → IsThere z id) → StandsFor n (with_register z p.thread r v)
-registered p n z r v s c known = record {
+-- the heap alone may have changed, and stands for the same state
+pub same_state : (p n : Plain) (z : State) → StandsFor p z → SamePart p n → SameHold p n → Stands n.heap z → n.heap.room ≡ [] → StandsFor n z
+same_state p n z s c held stands room = record {
   shows = record {
-    options = s.shows.options ∙ sym c.same.options;
+    heap = stands;
+    options = s.shows.options ∙ sym c.options;
     blocks = λ q. s.shows.blocks q ∙ ap (λ m. option_map seen (tree.get id_cmp m q)) (sym c.blocks);
-    registers = λ q h. rw c.same.thread (c.set _ s.shows.registers q h ∙ ap Some (at_register p.thread r q v (z.registers p.thread q)));
-    roots = λ g h. ap (λ m. slice_get m.held g) c.roots ∙ s.shows.roots g h;
-    serials = rw c.same.thread (s.shows.serials ∙ sym c.same.serials);
-    fresh = λ k h. rw c.same.thread (s.shows.fresh k (omega (arith, h, c.same.serials)));
-    running = rw c.same.thread s.shows.running;
-    counts = s.shows.counts;
-    weak = s.shows.weak;
-    assocs = s.shows.assocs;
-    reclaims = s.shows.reclaims;
-    cycle = s.shows.cycle;
-    used = s.shows.used ∙ sym c.same.used;
-    own = rw c.same.thread (s.shows.own ∙ sym c.same.own);
-    escaped = s.shows.escaped ∙ sym c.same.escaped;
+    registers = rw c.thread (held (z.registers p.thread) s.shows.registers);
+    serials = rw c.thread (s.shows.serials ∙ sym c.serials);
+    fresh = λ k h. rw c.thread (s.shows.fresh k (omega (arith, h, c.serials)));
+    own = rw c.thread (s.shows.own ∙ sym c.own);
+    running = rw c.thread s.shows.running;
   };
-  sound = rw c.same.thread record {
+  sound = rw c.thread s.sound;
+  room = room;
+}
+
+-- nothing but a register and the heap has changed
+pub registered : (p n : Plain) (z : State) (r : ℕ) (v : Option BlockId) → StandsFor p z → SamePart p n → ((f : ℕ → Option BlockId) → Hold p.registers f → Hold n.registers (λ q. cond (r == q) v (f q)))
+    → Stands n.heap (with_register z p.thread r v) → n.heap.room ≡ [] → ((id : BlockId) → v ≡ Some id → IsThere z id) → StandsFor n (with_register z p.thread r v)
+registered p n z r v s c set stands room known = record {
+  shows = record {
+    heap = stands;
+    options = s.shows.options ∙ sym c.options;
+    blocks = λ q. s.shows.blocks q ∙ ap (λ m. option_map seen (tree.get id_cmp m q)) (sym c.blocks);
+    registers = λ q h. rw c.thread (set _ s.shows.registers q h ∙ ap Some (at_register p.thread r q v (z.registers p.thread q)));
+    serials = rw c.thread (s.shows.serials ∙ sym c.serials);
+    fresh = λ k h. rw c.thread (s.shows.fresh k (omega (arith, h, c.serials)));
+    own = rw c.thread (s.shows.own ∙ sym c.own);
+    running = rw c.thread s.shows.running;
+  };
+  sound = rw c.thread record {
     made = s.sound.made;
     filled = s.sound.filled;
     registers = λ q id h. elim (either_held ((p.thread == p.thread) && (r == q)) v (z.registers p.thread q) id h) [ inl e ↦ known id e | inr e ↦ s.sound.registers q id e ];
     roots = s.sound.roots;
     words = s.sound.words;
     shut = s.sound.shut;
+    counts = s.sound.counts;
+    objects = s.sound.objects;
+    values = s.sound.values;
+    shown = s.sound.shown;
+    showing = s.sound.showing;
+    fits = s.sound.fits;
   };
+  room = room;
 }
 
--- nothing but a root has changed
-pub record Rooted (p n : Plain) (g : ℕ) (v : Option BlockId) : Type 0 where
-  pub same : SameNumbers p n
-  pub blocks : n.blocks ≡ p.blocks
-  pub registers : n.registers ≡ p.registers
-  pub set : (f : ℕ → Option BlockId) → RootsHold p.roots f → RootsHold n.roots (λ q. cond (g == q) v (f q))
-
-pub rooted : (p n : Plain) (z : State) (g : ℕ) (v : Option BlockId) → StandsFor p z → Rooted p n g v → ((id : BlockId) → v ≡ Some id → IsTrue (is_escaped z id)) → StandsFor n (with_root z g v)
-rooted p n z g v s c known = record {
+-- the heap has changed by a root, which holds null or an escaped block
+pub rooted : (p n : Plain) (z : State) (g : ℕ) (v : Option BlockId) → StandsFor p z → SamePart p n → SameHold p n → Stands n.heap (with_root z g v) → n.heap.room ≡ [] → ((id : BlockId) → v ≡ Some id → IsTrue (is_escaped z id)) → StandsFor n (with_root z g v)
+rooted p n z g v s c held stands room known = record {
   shows = record {
-    options = s.shows.options ∙ sym c.same.options;
+    heap = stands;
+    options = s.shows.options ∙ sym c.options;
     blocks = λ q. s.shows.blocks q ∙ ap (λ m. option_map seen (tree.get id_cmp m q)) (sym c.blocks);
-    registers = λ q h. rw c.same.thread (ap (λ m. slice_get m.held q) c.registers ∙ s.shows.registers q h);
-    roots = λ q h. c.set _ s.shows.roots q h;
-    serials = rw c.same.thread (s.shows.serials ∙ sym c.same.serials);
-    fresh = λ k h. rw c.same.thread (s.shows.fresh k (omega (arith, h, c.same.serials)));
-    running = rw c.same.thread s.shows.running;
-    counts = s.shows.counts;
-    weak = s.shows.weak;
-    assocs = s.shows.assocs;
-    reclaims = s.shows.reclaims;
-    cycle = s.shows.cycle;
-    used = s.shows.used ∙ sym c.same.used;
-    own = rw c.same.thread (s.shows.own ∙ sym c.same.own);
-    escaped = s.shows.escaped ∙ sym c.same.escaped;
+    registers = rw c.thread (held (z.registers p.thread) s.shows.registers);
+    serials = rw c.thread (s.shows.serials ∙ sym c.serials);
+    fresh = λ k h. rw c.thread (s.shows.fresh k (omega (arith, h, c.serials)));
+    own = rw c.thread (s.shows.own ∙ sym c.own);
+    running = rw c.thread s.shows.running;
   };
-  sound = rw c.same.thread record {
+  sound = rw c.thread record {
     made = s.sound.made;
     filled = s.sound.filled;
     registers = s.sound.registers;
     roots = λ q id h. elim (either_held (g == q) v (z.roots q) id h) [ inl e ↦ known id e | inr e ↦ s.sound.roots q id e ];
     words = s.sound.words;
     shut = s.sound.shut;
+    counts = s.sound.counts;
+    objects = s.sound.objects;
+    values = s.sound.values;
+    shown = s.sound.shown;
+    showing = s.sound.showing;
+    fits = s.sound.fits;
   };
-}
-
--- a map after an edit
-module _ {K X : Type 0} {R : K → K → Ordering} (o : IsTotalOrder R) (exact : IsAntisymmetric R) where
-  mapped_none : (f : X → X) (v : Option X) → v ≡ None → v ≡ option_map f v
-  mapped_none f None h = refl
-  mapped_none f (Some x) h = cc
-
-  unchanged : (v : Option X) → v ≡ option_map (λ x. x) v
-  unchanged None = refl
-  unchanged (Some x) = refl
-
-  there_edited : (m : FinMap R X) (k : K) (g : X → X) (q : K) (x : X) → get m k ≡ Some x → (r : Ordering) → R k q ≡ r → cond (is_eq r) (Some (g x)) (get m q) ≡ option_map (λ x. cond (is_eq r) (g x) x) (get m q)
-  there_edited m k g q x is Less e = unchanged (get m q)
-  there_edited m k g q x is Equal e = rw (sym (ap (get m) (exact k q e)) ∙ is) refl
-  there_edited m k g q x is Greater e = unchanged (get m q)
-
-  none_edited : (m : FinMap R X) (k : K) (g : X → X) (q : K) → get m k ≡ None → (r : Ordering) → R k q ≡ r → get m q ≡ option_map (λ x. cond (is_eq r) (g x) x) (get m q)
-  none_edited m k g q none Less e = unchanged (get m q)
-  none_edited m k g q none Equal e = mapped_none g (get m q) (sym (ap (get m) (exact k q e)) ∙ none)
-  none_edited m k g q none Greater e = unchanged (get m q)
-
-  pub get-edit : (m : FinMap R X) (k : K) (g : X → X) (q : K) → get (with_edit m k g) q ≡ option_map (λ x. cond (eq_by_cmp R k q) (g x) x) (get m q)
-  get-edit m k g q = go (get m k) refl
-    where
-      go : (v : Option X) → get m k ≡ v → get (option_map_or (λ x. insert m k (g x)) v m) q ≡ option_map (λ x. cond (eq_by_cmp R k q) (g x) x) (get m q)
-      go None is = none_edited m k g q is (R k q) refl
-      go (Some x) is = get-insert o m k (g x) q ∙ ap (λ b. cond b (Some (g x)) (get m q)) ((eq_by_cmp_equiv o).symm q k) ∙ there_edited m k g q x is (R k q) refl
-
-  pub total-edit : (f : K → X → ℕ) (m : FinMap R X) (k : K) (g : X → X) → ((x : X) → f k (g x) ≡ f k x) → total f (with_edit m k g) ≡ total f m
-  total-edit f m k g same = go (get m k) refl
-    where
-      go : (v : Option X) → get m k ≡ v → total f (option_map_or (λ x. insert m k (g x)) v m) ≡ total f m
-      go None is = refl
-      go (Some x) is =
-          let e : total f (insert m k (g x)) + at_value (f k) (get m k) ≡ total f m + f k (g x) = total-insert o exact f m k (g x) in
-          let was : at_value (f k) (get m k) ≡ f k x = ap (at_value (f k)) is in
-          let now : f k (g x) ≡ f k x = same x in
-          omega arith
-
--- words after one of them was set
-place : (ws : List Word) (i j : ℕ) (w : Word) → (i ≡ j) ⊎ (slice_get (slice_set ws i w) j ≡ slice_get ws j)
-place [] i j w = inr refl
-place (v ∷ ws) zero zero w = inl refl
-place (v ∷ ws) zero (suc j) w = inr refl
-place (v ∷ ws) (suc i) zero w = inr refl
-place (v ∷ ws) (suc i) (suc j) w = elim (place ws i j w) [ inl e ↦ inl (ap suc e) | inr e ↦ inr e ]
-
-set_there : (ws : List Word) (i : ℕ) (w v : Word) → slice_get ws i ≡ Some v → slice_get (slice_set ws i w) i ≡ Some w
-set_there [] i w v h = cc
-set_there (x ∷ ws) zero w v h = refl
-set_there (x ∷ ws) (suc i) w v h = set_there ws i w v h
-
-set_or_was : (ws : List Word) (i j : ℕ) (w v : Word) → slice_get (slice_set ws i w) j ≡ Some v → (w ≡ v) ⊎ (slice_get ws j ≡ Some v)
-set_or_was [] i j w v h = inr h
-set_or_was (x ∷ ws) zero zero w v h = inl cc
-set_or_was (x ∷ ws) zero (suc j) w v h = inr h
-set_or_was (x ∷ ws) (suc i) zero w v h = inr h
-set_or_was (x ∷ ws) (suc i) (suc j) w v h = set_or_was ws i j w v h
-
-length_set : (ws : List Word) (i : ℕ) (w : Word) → length (slice_set ws i w) ≡ length ws
-length_set [] i w = refl
-length_set (x ∷ ws) zero w = refl
-length_set (x ∷ ws) (suc i) w = ap suc (length_set ws i w)
-
-pub fills_set : (l : Layout) (ws : List Word) (i : ℕ) (w : Word) → Fills l ws → (class_at l i ≡ Some class.Plain → (n : ℕ) × (w ≡ word.Number n)) → Fills l (slice_set ws i w)
-fills_set l ws i w f suits = record {
-  count = length_set ws i w ∙ f.count;
-  numbers = λ j plain. elim (place ws i j w) [
-    | inl e ↦
-        let suited = suits (ap (class_at l) e ∙ plain) in
-        let was = f.numbers j plain in
-        (suited.0, subst (λ k. slice_get (slice_set ws i w) k ≡ Some (word.Number suited.0)) e (set_there ws i w (word.Number was.0) (ap (slice_get ws) e ∙ was.1) ∙ ap Some suited.1))
-    | inr e ↦ let was = f.numbers j plain in (was.0, e ∙ was.1)
-  ];
+  room = room;
 }
 
 -- the block at an id, after a word of a block was set
@@ -200,6 +139,41 @@ since_same id at w q (Some b) = elim (same_id id q) as (λ t. (let c : Block = c
 some_block : (a b : Block) → Some a ≡ Some b → a ≡ b
 some_block a b h = cc
 
+-- an unescaped block after an edit is the edit of the unescaped block
+unescaped_edit : (id : BlockId) (at : ℕ) (w : Word) (q : BlockId) (o : Option Block) → unescaped (option_map (edit_at id at w q) o) ≡ option_map (edit_at id at w q) (unescaped o)
+unescaped_edit id at w q None = refl
+unescaped_edit id at w q (Some b) = go (same_id id q) b.since refl
+  where
+    go : (t : Bool) (v : Option ℕ) → b.since ≡ v → unescaped (Some (cond t (put_word at w b) b)) ≡ option_map (λ b. cond t (put_word at w b) b) (unescaped (Some b))
+    go true None e = rw e refl
+    go false None e = rw e refl
+    go true (Some n) e = rw e refl
+    go false (Some n) e = rw e refl
+
+-- the heap keeps nothing of an unescaped block
+own_kept : (n : ℕ) (id : BlockId) (at : ℕ) (w : Word) (q : BlockId) (o : Option Block) → (same_id id q ≡ true → escaped_view n o ≡ None) → escaped_view n (option_map (edit_at id at w q) o) ≡ escaped_view n o
+own_kept n id at w q None none = refl
+own_kept n id at w q (Some b) none = go (same_id id q) refl none
+  where
+    go : (t : Bool) → same_id id q ≡ t → (t ≡ true → kept_of n b ≡ None) → kept_of n (cond t (put_word at w b) b) ≡ kept_of n b
+    go false e none = refl
+    go true e none = one b.since refl (none refl)
+      where
+        one : (v : Option ℕ) → b.since ≡ v → kept_of n b ≡ None → kept_of n (put_word at w b) ≡ kept_of n b
+        one None e h = rw e refl
+        one (Some k) e h = let no = rw e at h in cc (no)
+
+not_kept : (n : ℕ) (b : Block) → b.since ≡ None → kept_of n b ≡ None
+not_kept n b h = rw h refl
+
+some_there : (o : Option Block) → IsTrue (is_some (option_and_then (λ b. b.since) o)) → IsSome o
+some_there None h = cc
+some_there (Some b) h = refl
+
+-- an escaped block is there
+pub escaped_there : (z : State) (id : BlockId) → IsTrue (is_escaped z id) → IsThere z id
+escaped_there z id = some_there (get z.blocks id)
+
 module _ (z : State) (id : BlockId) (at : ℕ) (w : Word) where
   abbrev after : State
   after = with_word z (Some id) at w
@@ -218,7 +192,7 @@ module _ (z : State) (id : BlockId) (at : ℕ) (w : Word) where
       one old there Less c is = inl (old, e.1, there, ap (λ (k : Block). slice_get k.words e.1) (some_block old e.0 is) ∙ e.3)
       one old there Greater c is = inl (old, e.1, there, ap (λ (k : Block). slice_get k.words e.1) (some_block old e.0 is) ∙ e.3)
       one old there Equal c is = elim (set_or_was old.words at e.1 w (word.Block b) (ap (λ (k : Block). slice_get k.words e.1) (some_block (put_word at w old) e.0 is) ∙ e.3)) [
-        | inl now ↦ inr (exact_ids id a c, now)
+        | inl now ↦ inr (exact_ids id a c, now.1)
         | inr was ↦ inl (old, e.1, there, was)
       ]
 
@@ -226,9 +200,9 @@ module _ (z : State) (id : BlockId) (at : ℕ) (w : Word) where
       go None there is = cc
       go (Some old) there is = one old there (id_cmp id a) refl is
 
-  sound_set : (t : ℕ) (old : Block) → IsSound t z → get z.blocks id ≡ Some old → (class_at old.layout at ≡ Some class.Plain → (n : ℕ) × (w ≡ word.Number n))
+  sound_set : (t : ℕ) → IsSound t z → ((old : Block) → get z.blocks id ≡ Some old → old.since ≡ None → Takes old.layout at w)
       → ((b : BlockId) → w ≡ word.Block b → IsThere z b) → ((b : BlockId) → w ≡ word.Block b → IsTrue (is_escaped z id) → IsTrue (is_escaped z b)) → IsSound t after
-  sound_set t old s there suits known shut = record {
+  sound_set t s takes known shut = record {
     made = λ q h. s.made q (still_there _ (get z.blocks q) (subst IsSome (got q) h));
     filled = λ q b h. fill q b (get z.blocks q) refl (sym (got q) ∙ h);
     registers = λ r q h. subst IsSome (sym (got q)) (stays_there _ (get z.blocks q) (s.registers r q h));
@@ -238,45 +212,97 @@ module _ (z : State) (id : BlockId) (at : ℕ) (w : Word) where
       | inl was ↦ s.shut a b was (subst IsTrue (escaped_same a) h)
       | inr now ↦ shut b now.1 (subst (λ q. IsTrue (is_escaped z q)) (sym now.0) (subst IsTrue (escaped_same a) h))
     ]);
+    counts = λ q h. subst IsTrue (sym (escaped_same q)) (s.counts q h);
+    objects = λ a k b h. subst IsTrue (sym (escaped_same a)) (s.objects a k b h);
+    values = λ a k b h. subst IsTrue (sym (escaped_same b)) (s.values a k b h);
+    shown = λ l b h. subst IsTrue (sym (escaped_same b)) (s.shown l b h);
+    showing = λ a i b h. subst IsTrue (sym (escaped_same a)) (s.showing a i b h);
+    fits = subst (λ u. u ≤ z.options.heap_quanta) (sym (total-edit ids_total exact_ids _ z.blocks id (put_word at w) (λ b. refl))) s.fits;
   }
     where
-      one : (q : BlockId) (b was : Block) → get z.blocks q ≡ Some was → (r : Ordering) → id_cmp id q ≡ r → Some (cond (is_eq r) (put_word at w was) was) ≡ Some b → Fills b.layout b.words
-      one q b was is Less c h = subst (λ (k : Block). Fills k.layout k.words) (some_block was b h) (s.filled q was is)
-      one q b was is Greater c h = subst (λ (k : Block). Fills k.layout k.words) (some_block was b h) (s.filled q was is)
-      one q b was is Equal c h =
-          let same : old ≡ was = some_block old was (sym there ∙ ap (get z.blocks) (exact_ids id q c) ∙ is) in
-          subst (λ (k : Block). Fills k.layout k.words) (some_block (put_word at w was) b h) (fills_set was.layout was.words at w (s.filled q was is) (λ plain. suits (ap (λ (k : Block). class_at k.layout at) same ∙ plain)))
+      one : (q : BlockId) (b was : Block) → get z.blocks q ≡ Some was → (r : Ordering) → id_cmp id q ≡ r → Some (cond (is_eq r) (put_word at w was) was) ≡ Some b → b.since ≡ None → Whole b.layout b.words
+      one q b was is Less c h fresh = s.filled q b (is ∙ h) fresh
+      one q b was is Greater c h fresh = s.filled q b (is ∙ h) fresh
+      one q b was is Equal c h fresh =
+          let same : put_word at w was ≡ b = some_block (put_word at w was) b h in
+          let old : was.since ≡ None = ap (λ (k : Block). k.since) same ∙ fresh in
+          subst (λ (k : Block). Whole k.layout k.words) same (whole_set was.layout was.words at w (s.filled q was is old) (takes was (ap (get z.blocks) (exact_ids id q c) ∙ is) old))
 
-      fill : (q : BlockId) (b : Block) (o : Option Block) → get z.blocks q ≡ o → option_map (edit_at id at w q) o ≡ Some b → Fills b.layout b.words
+      fill : (q : BlockId) (b : Block) (o : Option Block) → get z.blocks q ≡ o → option_map (edit_at id at w q) o ≡ Some b → b.since ≡ None → Whole b.layout b.words
       fill q b None is h = cc
       fill q b (Some was) is h = one q b was is (id_cmp id q) refl h
 
-  -- a word of a block was set
-  pub word_set : (p n : Plain) (old : Block) → StandsFor p z → SetsWord p n id at w → get z.blocks id ≡ Some old → (class_at old.layout at ≡ Some class.Plain → (n : ℕ) × (w ≡ word.Number n))
-      → ((b : BlockId) → w ≡ word.Block b → IsThere z b) → ((b : BlockId) → w ≡ word.Block b → IsTrue (is_escaped z id) → IsTrue (is_escaped z b)) → StandsFor n after
-  word_set p n old s c there suits known shut = record {
+  -- a word of an unescaped block was set
+  pub word_set : (p n : Plain) (old : Block) → StandsFor p z → SetsWord p n id at w → get z.blocks id ≡ Some old → old.since ≡ None → Takes old.layout at w → ((b : BlockId) → w ≡ word.Block b → IsThere z b) → StandsFor n after
+  word_set p n old s c there own takes known = record {
     shows = record {
-      options = s.shows.options ∙ sym c.same.options;
-      blocks = λ q. got q ∙ ap (option_map (edit_at id at w q)) (s.shows.blocks q) ∙ sym (c.blocks q);
-      registers = λ q h. rw c.same.thread (ap (λ m. slice_get m.held q) c.registers ∙ s.shows.registers q h);
-      roots = λ g h. ap (λ m. slice_get m.held g) c.roots ∙ s.shows.roots g h;
-      serials = rw c.same.thread (s.shows.serials ∙ sym c.same.serials);
-      fresh = λ k h. rw c.same.thread (got _ ∙ ap (option_map (edit_at id at w _)) (s.shows.fresh k (omega (arith, h, c.same.serials))));
-      running = rw c.same.thread s.shows.running;
-      counts = s.shows.counts;
-      weak = s.shows.weak;
-      assocs = s.shows.assocs;
-      reclaims = s.shows.reclaims;
-      cycle = s.shows.cycle;
-      used = total-edit ids_total exact_ids _ z.blocks id (put_word at w) (λ b. refl) ∙ s.shows.used ∙ sym c.same.used;
-      own = rw c.same.thread (total-edit ids_total exact_ids _ z.blocks id (put_word at w) (λ b. refl) ∙ s.shows.own ∙ sym c.same.own);
-      escaped = total-edit ids_total exact_ids _ z.blocks id (put_word at w) (λ b. refl) ∙ s.shows.escaped ∙ sym c.same.escaped;
+      heap = rw c.heap record {
+        options = s.shows.heap.options;
+        blocks = λ q. s.shows.heap.blocks q ∙ sym (ap (escaped_view z.reclaims) (got q) ∙ own_kept z.reclaims id at w q (get z.blocks q) (λ e. ap (λ x. escaped_view z.reclaims (get z.blocks x)) (sym (is_one q e)) ∙ ap (escaped_view z.reclaims) there ∙ not_kept z.reclaims old own));
+        roots = s.shows.heap.roots;
+        counts = s.shows.heap.counts;
+        weak = s.shows.heap.weak;
+        assocs = s.shows.heap.assocs;
+        cycle = s.shows.heap.cycle;
+      };
+      options = s.shows.options ∙ sym c.options;
+      blocks = λ q. ap unescaped (got q) ∙ unescaped_edit id at w q (get z.blocks q) ∙ ap (option_map (edit_at id at w q)) (s.shows.blocks q) ∙ sym (c.blocks q);
+      registers = λ q h. rw c.thread (ap (λ m. slice_get m.held q) c.registers ∙ s.shows.registers q h);
+      serials = rw c.thread (s.shows.serials ∙ sym c.serials);
+      fresh = λ k h. rw c.thread (got _ ∙ ap (option_map (edit_at id at w _)) (s.shows.fresh k (omega (arith, h, c.serials))));
+      own = rw c.thread (total-edit ids_total exact_ids _ z.blocks id (put_word at w) (λ b. refl) ∙ s.shows.own ∙ sym c.own);
+      running = rw c.thread s.shows.running;
     };
-    sound = rw c.same.thread (sound_set p.thread old s.sound there suits known shut);
+    sound = rw c.thread (sound_set p.thread s.sound (λ b is fresh. subst (λ (k : Block). Takes k.layout at w) (some_block old b (sym there ∙ is)) takes) known (λ b is out. absurd (not_out out)));
+    room = ap (λ h. h.room) c.heap ∙ s.room;
   }
+    where
+      is_one : (q : BlockId) → same_id id q ≡ true → id ≡ q
+      is_one q h = go (id_cmp id q) refl h
+        where
+          go : (r : Ordering) → id_cmp id q ≡ r → is_eq r ≡ true → id ≡ q
+          go Less e f = cc
+          go Equal e f = exact_ids id q e
+          go Greater e f = cc
 
--- the maps show that a word was set
-pub shown_set : (p : Plain) (n : tree.BTreeMap BlockId Held) (id : BlockId) (at : ℕ) (w : Word) (was now : Held) → tree.get id_cmp p.blocks id ≡ Some was → seen now ≡ put_word at w (seen was)
+      not_out : IsTrue (is_escaped z id) → ⊥
+      not_out h = let no : false ≡ true = sym (ap (λ o. is_some (option_and_then (λ (b : Block). b.since) o)) there ∙ ap is_some own) ∙ h in cc (no)
+
+  -- the heap has set a word of an escaped block
+  pub heap_word_set : (p n : Plain) → StandsFor p z → SamePart p n → SameHold p n → Stands n.heap after → n.heap.room ≡ [] → IsTrue (is_escaped z id) → ((b : BlockId) → w ≡ word.Block b → IsTrue (is_escaped z b)) → StandsFor n after
+  heap_word_set p n s c held stands room out known = record {
+    shows = record {
+      heap = stands;
+      options = s.shows.options ∙ sym c.options;
+      blocks = λ q. ap unescaped (got q) ∙ unescaped_edit id at w q (get z.blocks q) ∙ untouched q ∙ s.shows.blocks q ∙ ap (λ m. option_map seen (tree.get id_cmp m q)) (sym c.blocks);
+      registers = rw c.thread (held (z.registers p.thread) s.shows.registers);
+      serials = rw c.thread (s.shows.serials ∙ sym c.serials);
+      fresh = λ k h. rw c.thread (got _ ∙ ap (option_map (edit_at id at w _)) (s.shows.fresh k (omega (arith, h, c.serials))));
+      own = rw c.thread (total-edit ids_total exact_ids _ z.blocks id (put_word at w) (λ b. refl) ∙ s.shows.own ∙ sym c.own);
+      running = rw c.thread s.shows.running;
+    };
+    sound = rw c.thread (sound_set p.thread s.sound (λ b is fresh. absurd (not_own b is fresh)) (λ b is. escaped_there z b (known b is)) (λ b is _. known b is));
+    room = room;
+  }
+    where
+      not_own : (b : Block) → get z.blocks id ≡ Some b → b.since ≡ None → ⊥
+      not_own b is fresh = let no : false ≡ true = sym (ap (λ o. is_some (option_and_then (λ (b : Block). b.since) o)) is ∙ ap is_some fresh) ∙ out in cc (no)
+
+      untouched : (q : BlockId) → option_map (edit_at id at w q) (unescaped (get z.blocks q)) ≡ unescaped (get z.blocks q)
+      untouched q = go (get z.blocks q) refl (id_cmp id q) refl
+        where
+          one : (b : Block) → get z.blocks q ≡ Some b → (v : Option ℕ) → b.since ≡ v → (r : Ordering) → id_cmp id q ≡ r → option_map (λ b. cond (is_eq r) (put_word at w b) b) (unescaped (Some b)) ≡ unescaped (Some b)
+          one b is (Some n) e r c = rw e refl
+          one b is None e Less c = rw e refl
+          one b is None e Greater c = rw e refl
+          one b is None e Equal c = absurd (not_own b (ap (get z.blocks) (exact_ids id q c) ∙ is) e)
+
+          go : (o : Option Block) → get z.blocks q ≡ o → (r : Ordering) → id_cmp id q ≡ r → option_map (λ b. cond (is_eq r) (put_word at w b) b) (unescaped o) ≡ unescaped o
+          go None is r c = refl
+          go (Some b) is r c = one b is b.since refl r c
+
+-- the map shows that a word was set
+pub shown_set : (p : Plain) (n : tree.BTreeMap BlockId Own) (id : BlockId) (at : ℕ) (w : Word) (was now : Own) → tree.get id_cmp p.blocks id ≡ Some was → seen now ≡ put_word at w (seen was)
     → ((q : BlockId) → tree.get id_cmp n q ≡ cond (tree.is_at (id_cmp id) q) (Some now) (tree.get id_cmp p.blocks q))
     → (q : BlockId) → option_map seen (tree.get id_cmp n q) ≡ option_map (λ b. cond (tree.is_at (id_cmp id) q) (put_word at w b) b) (option_map seen (tree.get id_cmp p.blocks q))
 shown_set p n id at w was now there is updates q = ap (option_map seen) (updates q) ∙ go (id_cmp id q) refl
@@ -289,11 +315,3 @@ shown_set p n id at w was now there is updates q = ap (option_map seen) (updates
     go Less e = same _
     go Equal e = ap Some is ∙ sym (ap (λ o. option_map (put_word at w) (option_map seen o)) (sym (ap (tree.get id_cmp p.blocks) (exact_ids id q e)) ∙ there))
     go Greater e = same _
-
-some_there : (o : Option Block) → IsTrue (is_some (option_and_then (λ b. b.since) o)) → IsSome o
-some_there None h = cc
-some_there (Some b) h = refl
-
--- an escaped block is there
-pub escaped_there : (z : State) (id : BlockId) → IsTrue (is_escaped z id) → IsThere z id
-escaped_there z id = some_there (get z.blocks id)

@@ -1,91 +1,61 @@
--- The thread's own blocks, as the maps list them
-use Rattle.std.proofs.Common.{◌≡◌, ℕ, ◌==◌, Bool, true, false, cond, not, ◌&&◌, List, [], ◌∷◌, map, filter, Option, Some, None, refl, sym, ap, ◌∙◌, is_none}
-use Rattle.std.specs.List.{AllByRecursion, list_any}
-use Rattle.std.specs.List.Sorted.{IsStrictlySortedBy}
+-- The thread's own blocks, as the map lists them
+use Rattle.std.proofs.Common.{◌≡◌, ℕ, ◌==◌, Bool, true, false, cond, ◌&&◌, ◌||◌, List, [], ◌∷◌, map, Option, Some, None, IsSome, refl, sym, ap, ◌∙◌, is_none, is_some, eq-eqb}
 use Rattle.std.specs.Map.{lookup}
 use Rattle.std.specs.Option.{option_map, option_map_or}
 use Rattle.std.specs.BTreeMap.{is_at}
 use Rattle.std.specs.BTreeMap as tree
-use Rattle.std.specs.declared.cmp.Ordering.{Ordering}
-use Rattle.std.specs.declared.cmp.Ordering.TheVariants.{Less, Equal, Greater}
-use Rattle.std.specs.Ordering.{is_eq}
+use Rattle.std.specs.FinMap.{get}
 use Rattle.az_base.specs.declared.block_id.BlockId.{BlockId}
-use Rattle.az_base.specs.Ids.{among, id_cmp, same_id, exact_ids}
-use Rattle.zone_model.specs.State.{State, Block, is_own}
-use Rattle.autozone.specs.declared.plain.zone.Held.{Held}
+use Rattle.az_base.specs.Ids.{among, id_cmp, same_id}
+use Rattle.zone_model.specs.State.{State, Block, is_own, is_unescaped}
+use Rattle.zone_model.specs.declared.call.Call.TheVariants as call
+use Rattle.zone_model.specs.declared.entry.Reply.TheVariants as reply
+use Rattle.zone_model.specs.declared.entry.Stats.{Stats}
+use Rattle.zone_model.specs.Stats.{stats_of}
+use Rattle.shared_heap.specs.Steps as shared
+use Rattle.autozone.specs.declared.plain.zone.Own.{Own}
 use Rattle.autozone.specs.declared.plain.zone.Plain.{Plain}
-use Rattle.autozone.specs.StandsFor.{StandsFor, seen, own_among}
+use Rattle.autozone.specs.StandsFor.{StandsFor, seen, unescaped}
+use Rattle.autozone.proofs.Leading.{effect_of}
 
--- the test by which the blocks are listed
-abbrev is_listed : ℕ → BlockId × Held → Bool
-is_listed t e = (e.0.thread == t) && not e.1.escaped
-
-all_own : (P : BlockId → Type 0) (t : ℕ) (es : List (BlockId × Held)) → AllByRecursion P (map (λ e. e.0) es) → AllByRecursion P (own_among t es)
-all_own P t [] h = tt
-all_own P t (e ∷ es) h =
-    elim (is_listed t e) as (λ b. AllByRecursion P (map (λ (e : BlockId × Held). e.0) (cond b (e ∷ filter (is_listed t) es) (filter (is_listed t) es)))) [
-      | true ↦ (h.0, all_own P t es h.1)
-      | false ↦ all_own P t es h.1
-    ]
-
-pub own_sorted : (t : ℕ) (es : List (BlockId × Held)) → IsStrictlySortedBy id_cmp (map (λ e. e.0) es) → IsStrictlySortedBy id_cmp (own_among t es)
-unfolding IsStrictlySortedBy
-own_sorted t [] h = tt
-own_sorted t (e ∷ es) h =
-    elim (is_listed t e) as (λ b. IsStrictlySortedBy id_cmp (map (λ (e : BlockId × Held). e.0) (cond b (e ∷ filter (is_listed t) es) (filter (is_listed t) es)))) [
-      | true ↦ (all_own (λ y. id_cmp e.0 y ≡ Less) t es h.0, own_sorted t es h.1)
-      | false ↦ own_sorted t es h.1
-    ]
-
--- whether there is a block, and it hasn't escaped
-abbrev own_value : Option Held → Bool
-own_value o = option_map_or (λ b. not b.escaped) o false
-
-lookup_below : (q : BlockId) (es : List (BlockId × Held)) → AllByRecursion (λ y. id_cmp q y ≡ Less) (map (λ e. e.0) es) → lookup (is_at (id_cmp q)) es ≡ None
-lookup_below q [] h = refl
-lookup_below q (e ∷ es) h = ap (λ r. cond (is_eq r) (Some e.1) (lookup (is_at (id_cmp q)) es)) h.0 ∙ lookup_below q es h.1
-
-and_false : (a : Bool) → (a && false) ≡ false
-and_false true = refl
-and_false false = refl
-
-among-own : (t : ℕ) (es : List (BlockId × Held)) → IsStrictlySortedBy id_cmp (map (λ e. e.0) es) → (q : BlockId)
-    → among (own_among t es) q ≡ ((q.thread == t) && own_value (lookup (is_at (id_cmp q)) es))
-unfolding IsStrictlySortedBy
-among-own t [] h q = sym (and_false (q.thread == t))
-among-own t (e ∷ es) h q =
-    let rest = among-own t es h.1 q in
-    elim (id_cmp q e.0) as (λ r. id_cmp q e.0 ≡ r → (b : Bool) → is_listed t e ≡ b
-    → list_any (same_id q) (map (λ (e : BlockId × Held). e.0) (cond b (e ∷ filter (is_listed t) es) (filter (is_listed t) es)))
-    ≡ ((q.thread == t) && own_value (cond (is_eq r) (Some e.1) (lookup (is_at (id_cmp q)) es)))) [
-      | Less ↦ λ c b is. apart q e es t b Less c refl ∙ rest
-      | Equal ↦ λ c b is. here t e es h.0 q (exact_ids q e.0 c) c b is rest
-      | Greater ↦ λ c b is. apart q e es t b Greater c refl ∙ rest
-    ] refl (is_listed t e) refl
+-- an id is listed where the map has it
+among_keys : (es : List (BlockId × Own)) (q : BlockId) → among (map (λ e. e.0) es) q ≡ is_some (lookup (is_at (id_cmp q)) es)
+among_keys [] q = refl
+among_keys (e ∷ es) q = go (same_id q e.0) (among_keys es q)
   where
-    apart : (q : BlockId) (e : BlockId × Held) (es : List (BlockId × Held)) (t : ℕ) (b : Bool) (r : Ordering) → id_cmp q e.0 ≡ r → is_eq r ≡ false
-        → list_any (same_id q) (map (λ (e : BlockId × Held). e.0) (cond b (e ∷ filter (is_listed t) es) (filter (is_listed t) es))) ≡ among (own_among t es) q
-    apart q e es t true r c unlike = rw (c, unlike) refl
-    apart q e es t false r c unlike = refl
+    go : (b : Bool) → among (map (λ (e : BlockId × Own). e.0) es) q ≡ is_some (lookup (is_at (id_cmp q)) es) → (b || among (map (λ (e : BlockId × Own). e.0) es) q) ≡ is_some (cond b (Some e.1) (lookup (is_at (id_cmp q)) es))
+    go true rest = refl
+    go false rest = rest
 
-    here : (t : ℕ) (e : BlockId × Held) (es : List (BlockId × Held)) → AllByRecursion (λ y. id_cmp e.0 y ≡ Less) (map (λ e. e.0) es) → (q : BlockId) → q ≡ e.0 → id_cmp q e.0 ≡ Equal → (b : Bool) → is_listed t e ≡ b
-        → among (own_among t es) q ≡ ((q.thread == t) && own_value (lookup (is_at (id_cmp q)) es))
-        → list_any (same_id q) (map (λ (e : BlockId × Held). e.0) (cond b (e ∷ filter (is_listed t) es) (filter (is_listed t) es))) ≡ ((q.thread == t) && not e.1.escaped)
-    here t e es below q same c true is rest = rw c (sym is ∙ ap (λ (x : BlockId). (x.thread == t) && not e.1.escaped) (sym same))
-    here t e es below q same c false is rest =
-        rest ∙ ap (λ (x : BlockId). (q.thread == t) && own_value (lookup (is_at (id_cmp x)) es)) same ∙ ap (λ o. (q.thread == t) && own_value o) (lookup_below e.0 es below)
-        ∙ and_false (q.thread == t) ∙ sym is ∙ ap (λ (x : BlockId). (x.thread == t) && not e.1.escaped) (sym same)
+unescaped_test : (o : Option Block) → option_map_or (λ b. is_none b.since) o false ≡ is_some (unescaped o)
+unescaped_test None = refl
+unescaped_test (Some b) = go (is_none b.since)
+  where
+    go : (t : Bool) → t ≡ is_some (cond t (Some b) None)
+    go true = refl
+    go false = refl
 
-since_shown : (e : Bool) → is_none (let since : Option ℕ = cond e (Some 0) None in since) ≡ not e
-since_shown true = refl
-since_shown false = refl
+seen_test : (o : Option Own) → is_some (option_map seen o) ≡ is_some o
+seen_test None = refl
+seen_test (Some b) = refl
 
-unescaped_seen : (o : Option Held) → option_map_or (λ b. is_none b.since) (option_map seen o) false ≡ own_value o
-unescaped_seen None = refl
-unescaped_seen (Some b) = since_shown b.escaped
+mine : (t u : ℕ) (b : Bool) → (b ≡ true → u ≡ t) → ((u == t) && b) ≡ b
+mine t u true same = ap (λ x. x && true) (eq-eqb u t (same refl))
+mine t u false same = and_false (u == t)
+  where
+    and_false : (a : Bool) → (a && false) ≡ false
+    and_false true = refl
+    and_false false = refl
+
+there_if : (o : Option Block) → option_map_or (λ b. is_none b.since) o false ≡ true → IsSome o
+there_if None h = cc
+there_if (Some b) h = refl
 
 -- the listed blocks are those that are the thread's own in a state that the zone stands for
-pub listed_is_own : (p : Plain) (z : State) → StandsFor p z → tree.IsOrdered id_cmp p.blocks → (q : BlockId) → among (own_among p.thread p.blocks.entries) q ≡ is_own z p.thread q
-listed_is_own p z s ordered q =
-    among-own p.thread p.blocks.entries ordered q
-    ∙ sym (ap (λ o. (q.thread == p.thread) && option_map_or (λ (b : Block). is_none b.since) o false) (s.shows.blocks q) ∙ ap (λ b. (q.thread == p.thread) && b) (unescaped_seen (tree.get id_cmp p.blocks q)))
+pub listed_is_own : (p : Plain) (z : State) → StandsFor p z → (q : BlockId) → among (map (λ e. e.0) p.blocks.entries) q ≡ is_own z p.thread q
+listed_is_own p z s q =
+    among_keys p.blocks.entries q ∙ sym (mine p.thread q.thread (is_unescaped z q) (λ h. s.sound.made q (there_if (get z.blocks q) h)) ∙ unescaped_test (get z.blocks q) ∙ ap is_some (s.shows.blocks q) ∙ seen_test (tree.get id_cmp p.blocks q))
+
+-- the heap's statistics are those of the state
+pub stats_are : (p : Plain) (z : State) (stats : Stats) → StandsFor p z → shared.Stepped p.heap z p.thread call.Stats (reply.Stats stats) → stats ≡ stats_of z
+stats_are p z stats s stepped = (effect_of z (record { thread = p.thread; call = call.Stats; reply = reply.Stats stats }) stepped.0 (λ id n. n) (λ n. n) (λ m e. cc) stepped.1).1.0

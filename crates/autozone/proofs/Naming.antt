@@ -1,103 +1,105 @@
--- The word that a call names, in the zone and in the state
-use Rattle.std.proofs.Common.{◌≡◌, ℕ, ◌<◌, ◌≤◌, zero, suc, Bool, true, false, cond, not, ◌||◌, List, [], ◌∷◌, length, Option, Some, None, IsSome, is_none, is_some, nat_le, nat_lt, slice_get, refl, sym, ap, subst, ◌∙◌, arith}
+-- The word that a call names in an unescaped block, in the zone and in the state
+use Rattle.std.proofs.Common.{◌≡◌, ℕ, ◌<◌, Bool, true, false, cond, List, [], ◌∷◌, length, Option, Some, None, IsSome, IsTrue, is_none, is_some, slice_get, refl, sym, ap, ◌∙◌, arith}
 use Rattle.std.proofs.lemmas.Bool.Decides.{nat_tests}
-use Rattle.std.specs.Option.{option_map, option_map_or, option_and_then}
-use Rattle.std.specs.List.{list_any}
+use Rattle.std.specs.Option.{option_map, option_and_then}
 use Rattle.std.specs.FinMap.{get}
 use Rattle.std.specs.BTreeMap as tree
 use Rattle.az_base.specs.declared.block_id.BlockId.{BlockId}
-use Rattle.az_base.specs.declared.misuse.Misuse.{Misuse}
 use Rattle.az_base.specs.declared.misuse.Misuse.TheVariants as misuse
 use Rattle.az_base.specs.declared.word.Class.{Class}
 use Rattle.az_base.specs.declared.word.Class.TheVariants as class
-use Rattle.az_base.specs.Ids.{id_cmp}
-use Rattle.block_layouts.specs.declared.layout.Layout.{Layout}
-use Rattle.block_layouts.specs.declared.layout.Shape.TheVariants as shape
-use Rattle.block_layouts.specs.Layouts.{len_of, class_at, same_class}
-use Rattle.zone_model.specs.State.{State, Block, word_at, referent}
-use Rattle.autozone.specs.Soundness.{IsThere}
-use Rattle.zone_model.specs.Misuses.{Named, word_in, first_of}
-use Rattle.autozone.specs.declared.plain.zone.Held.{Held}
-use Rattle.autozone.specs.declared.plain.zone.Plain.{Plain}
-use Rattle.autozone.specs.StandsFor.{StandsFor, seen}
 use Rattle.az_base.specs.declared.word.Word.{Word}
 use Rattle.az_base.specs.declared.word.Word.TheVariants as word
-use Rattle.autozone.specs.Words.{word_misuse, HasWord}
+use Rattle.az_base.specs.Ids.{id_cmp}
+use Rattle.block_layouts.specs.declared.layout.Layout.{Layout}
+use Rattle.block_layouts.specs.Layouts.{class_at, same_class}
+use Rattle.zone_model.specs.declared.call.Call.{Call}
+use Rattle.zone_model.specs.State.{State, Block, word_at, referent, reference, is_escaped}
+use Rattle.zone_model.specs.Misuses.{words_named}
+use Rattle.shared_heap.specs.Steps.{NeedsWord, first_three}
+use Rattle.shared_heap.specs.Whole.{Takes, Whole}
+use Rattle.shared_heap.specs.Words.{class_misuse}
+use Rattle.shared_heap.proofs.Stepping.{one_word, within}
+use Rattle.autozone.specs.declared.plain.zone.Own.{Own}
+use Rattle.autozone.specs.declared.plain.zone.Plain.{Plain}
+use Rattle.autozone.specs.Soundness.{IsThere}
+use Rattle.autozone.specs.StandsFor.{StandsFor, Shows, seen, unescaped}
+use Rattle.autozone.specs.Words.{HasWord}
 
--- nothing is found at a place past the end, and something at each place before it
-past_list : {X : Type 0} (xs : List X) (i : ℕ) → slice_get xs i ≡ None → length xs ≤ i
-past_list [] i h = omega arith
-past_list (x ∷ xs) zero h = cc
-past_list (x ∷ xs) (suc i) h = let l : length xs ≤ i = past_list xs i h in omega arith
+some_one : {X : Type 0} (x y : X) → Some x ≡ Some y → x ≡ y
+some_one x y h = cc
 
-within_list : {X : Type 0} (xs : List X) (i : ℕ) (x : X) → slice_get xs i ≡ Some x → i < length xs
-within_list [] i x h = cc
-within_list (y ∷ xs) zero x h = omega arith
-within_list (y ∷ xs) (suc i) x h = let l : i < length xs = within_list xs i x h in omega arith
-
-lt_none : {X : Type 0} (x : X) (i n : ℕ) → cond (nat_lt i n) (Some x) None ≡ None → n ≤ i
-lt_none x i n h = go (nat_lt i n) refl h
+-- what the state has of an unescaped block
+unescaped_is : (o : Option Block) (b : Block) → unescaped o ≡ Some b → o ≡ Some b
+unescaped_is None b h = cc
+unescaped_is (Some a) b h = go (is_none a.since) h
   where
-    go : (b : Bool) → nat_lt i n ≡ b → cond b (Some x) None ≡ None → n ≤ i
-    go true e h = cc
-    go false e h = grind (arith, nat_tests)
+    go : (t : Bool) → cond t (Some a) None ≡ Some b → Some a ≡ Some b
+    go true h = h
+    go false h = cc
 
-lt_some : {X : Type 0} (x y : X) (i n : ℕ) → cond (nat_lt i n) (Some x) None ≡ Some y → i < n
-lt_some x y i n h = go (nat_lt i n) refl h
+pub shown_block : (p : Plain) (z : State) (id : BlockId) (b : Own) → Shows p z → tree.get id_cmp p.blocks id ≡ Some b → get z.blocks id ≡ Some (seen b)
+shown_block p z id b s h = unescaped_is (get z.blocks id) (seen b) (s.blocks id ∙ ap (option_map seen) h)
+
+-- a block that is there and isn't one of the thread's own has escaped
+pub no_own : (p : Plain) (z : State) (id : BlockId) → Shows p z → IsThere z id → tree.get id_cmp p.blocks id ≡ None → IsTrue (is_escaped z id)
+no_own p z id s there none = go (get z.blocks id) refl there
   where
-    go : (b : Bool) → nat_lt i n ≡ b → cond b (Some x) None ≡ Some y → i < n
-    go true e h = grind (arith, nat_tests)
-    go false e h = cc
+    one : (b : Block) (v : Option ℕ) → b.since ≡ v → get z.blocks id ≡ Some b → IsTrue (is_escaped z id)
+    one b (Some n) e is = ap (λ o. is_some (option_and_then (λ (b : Block). b.since) o)) is ∙ ap is_some e
+    one b None e is = let no : Some b ≡ None = sym (ap unescaped is ∙ rw e refl) ∙ s.blocks id ∙ ap (option_map seen) none in cc (no)
 
-pub past : (l : Layout) (i : ℕ) → class_at l i ≡ None → len_of l ≤ i
-past (shape.Scanned n) i h = lt_none class.Strong i n h
-past (shape.Unscanned n) i h = lt_none class.Plain i n h
-past (shape.Object classes) i h = past_list classes i h
+    go : (o : Option Block) → get z.blocks id ≡ o → IsSome o → IsTrue (is_escaped z id)
+    go None e h = cc
+    go (Some b) e h = one b b.since refl e
 
-pub within : (l : Layout) (i : ℕ) (c : Class) → class_at l i ≡ Some c → i < len_of l
-within (shape.Scanned n) i c h = lt_some class.Strong c i n h
-within (shape.Unscanned n) i c h = lt_some class.Plain c i n h
-within (shape.Object classes) i c h = within_list classes i c h
+pub own_there : (o : Option Own) → is_some o ≡ true → (b : Own) × (o ≡ Some b)
+own_there None h = cc
+own_there (Some b) h = (b, refl)
 
--- the misuse of naming a word of this class in a block of this layout
-abbrev pub layout_misuse : Layout → ℕ → Class → Option Misuse
-layout_misuse l at kind = first_of ((nat_le (len_of l) at || false, misuse.NoWord) ∷ (option_map_or (λ k. not (same_class k kind)) (class_at l at) false || false, misuse.WrongClass) ∷ [])
+pub none_there : (o : Option Own) → is_some o ≡ false → o ≡ None
+none_there None h = refl
+none_there (Some b) h = cc
 
-pub names_null : (z : State) (t reg at : ℕ) (kind : Class) → z.registers t reg ≡ None → word_misuse z t reg at kind ≡ Some misuse.NullBlock
-names_null z t reg at kind h = rw h refl
+-- an own block hasn't escaped
+pub own_not_escaped : (p : Plain) (z : State) (id : BlockId) (b : Own) → Shows p z → tree.get id_cmp p.blocks id ≡ Some b → IsTrue (is_escaped z id) → ⊥
+own_not_escaped p z id b s there out = let no : false ≡ true = sym (ap (λ o. is_some (option_and_then (λ (b : Block). b.since) o)) (shown_block p z id b s there)) ∙ out in cc (no)
 
-pub names_block : (z : State) (t reg at : ℕ) (kind : Class) (id : BlockId) (b : Block) → z.registers t reg ≡ Some id → get z.blocks id ≡ Some b → word_misuse z t reg at kind ≡ layout_misuse b.layout at kind
-names_block z t reg at kind id b h there = rw (h, there) refl
+-- an own block fits its layout
+pub own_whole : (p : Plain) (z : State) (id : BlockId) (b : Own) → StandsFor p z → tree.get id_cmp p.blocks id ≡ Some b → Whole b.layout b.words.items
+own_whole p z id b s h = s.sound.filled id (seen b) (shown_block p z id b s.shows h) refl
 
-pub misuse_past : (l : Layout) (at : ℕ) (kind : Class) → class_at l at ≡ None → layout_misuse l at kind ≡ Some misuse.NoWord
-misuse_past l at kind h =
-    let e : nat_le (len_of l) at ≡ true = (let g : len_of l ≤ at = past l at h in grind (arith, nat_tests)) in
-    rw e refl
+-- a place with a class is within the words
+pub place_within : (l : Layout) (ws : List Word) (at : ℕ) (k : Class) → Whole l ws → class_at l at ≡ Some k → at < length ws
+place_within l ws at k whole is = let below = within l at k is in let all = whole.all in grind (arith, nat_tests)
 
-pub misuse_within : (l : Layout) (at : ℕ) (kind k : Class) → class_at l at ≡ Some k → layout_misuse l at kind ≡ cond (not (same_class k kind)) (Some misuse.WrongClass) None
-misuse_within l at kind k h =
-    let e : nat_le (len_of l) at ≡ false = (let g : at < len_of l = within l at k h in grind (arith, nat_tests)) in
-    rw (e, h) (no_or (not (same_class k kind)))
-  where
-    no_or : (b : Bool) → cond (b || false) (Some misuse.WrongClass) None ≡ cond b (Some misuse.WrongClass) None
-    no_or true = refl
-    no_or false = refl
+pub has_word : (p : Plain) (z : State) (id : BlockId) (b : Own) (at : ℕ) (k : Class) (w : Word) → StandsFor p z → tree.get id_cmp p.blocks id ≡ Some b → class_at b.layout at ≡ Some k → slice_get b.words.items at ≡ Some w → HasWord p.blocks id at k w
+has_word p z id b at k w s there kind is = record {
+  block = b;
+  there = there;
+  class_is = kind;
+  is = is;
+  suits = let takes = (own_whole p z id b s there).suit at w is in rw kind at takes;
+}
 
--- what a register of the thread holds is a block of the zone
-pub block_of : (p : Plain) (z : State) (r : ℕ) (id : BlockId) → StandsFor p z → z.registers p.thread r ≡ Some id → IsSome (tree.get id_cmp p.blocks id)
-block_of p z r id s h = go (tree.get id_cmp p.blocks id) (s.shows.blocks id) (s.sound.registers r id h)
-  where
-    go : (o : Option Held) → get z.blocks id ≡ option_map seen o → IsSome (get z.blocks id) → IsSome o
-    go None e there = let no : IsSome {T = Block} None = subst IsSome e there in cc
-    go (Some held) e there = refl
+-- the misuses of naming a word of an own block
+module _ (p : Plain) (z : State) (t reg at : ℕ) (c : Call) (k : Class) (id : BlockId) (b : Own) (s : Shows p z) (holds : z.registers t reg ≡ Some id) (there : tree.get id_cmp p.blocks id ≡ Some b) (needs : NeedsWord z t c reg at k) where
+  pub own_three : first_three z t c ≡ class_misuse k (class_at b.layout at)
+  own_three =
+      let is = shown_block p z id b s there in
+      let named : words_named z t c ≡ (record { layout = b.layout; at = at; class = k } ∷ []) = needs.word ∙ rw (holds, is) refl in
+      rw (needs.holder, holds, named) (one_word b.layout at k)
 
--- the state has the block as the zone shows it
-pub shown_block : (p : Plain) (z : State) (id : BlockId) (held : Held) → StandsFor p z → tree.get id_cmp p.blocks id ≡ Some held → get z.blocks id ≡ Some (seen held)
-shown_block p z id held s h = s.shows.blocks id ∙ ap (option_map seen) h
+same_itself : (k : Class) → cond (same_class k k) None (Some misuse.WrongClass) ≡ None
+same_itself class.Strong = refl
+same_itself class.Weak = refl
+same_itself class.Plain = refl
 
--- so it isn't missing
-pub no_block : (p : Plain) (z : State) (r : ℕ) (id : BlockId) → StandsFor p z → z.registers p.thread r ≡ Some id → tree.get id_cmp p.blocks id ≡ None → ⊥
-no_block p z r id s h none = let no : IsSome {T = Held} None = subst IsSome none (block_of p z r id s h) in cc
+pub right_class : (k : Class) (o : Option Class) → o ≡ Some k → class_misuse k o ≡ None
+right_class k o h = rw h (same_itself k)
+
+pub wrong_one : (k found : Class) (b : Bool) → b ≡ same_class found k → b ≡ false → class_misuse k (Some found) ≡ Some misuse.WrongClass
+wrong_one k found b e f = ap (λ t. cond t None (Some misuse.WrongClass)) (sym e ∙ f)
 
 pub same_class_is : (a b : Class) → same_class a b ≡ true → a ≡ b
 same_class_is class.Strong class.Strong h = refl
@@ -110,40 +112,9 @@ same_class_is class.Weak class.Plain h = cc
 same_class_is class.Plain class.Strong h = cc
 same_class_is class.Plain class.Weak h = cc
 
-pub not_same : (b : Bool) → b ≡ false → cond (not b) (Some misuse.WrongClass) None ≡ Some misuse.WrongClass
-not_same true h = cc
-not_same false h = refl
-
-pub same_itself : (a : Class) → cond (not (same_class a a)) (Some misuse.WrongClass) None ≡ None
-same_itself class.Strong = refl
-same_itself class.Weak = refl
-same_itself class.Plain = refl
-
--- a place with a class is within the words
-pub place_within : (p : Plain) (z : State) (id : BlockId) (held : Held) (at : ℕ) (k : Class) → StandsFor p z → tree.get id_cmp p.blocks id ≡ Some held → class_at held.layout at ≡ Some k → at < length held.words.items
-place_within p z id held at k s there is =
-    let fills = s.sound.filled id (seen held) (shown_block p z id held s there) in
-    let below : at < len_of held.layout = within held.layout at k is in
-    omega (arith, fills.count)
-
-some_one : {X : Type 0} (x y : X) → Some x ≡ Some y → x ≡ y
-some_one x y h = cc
-
-pub has_word : (p : Plain) (z : State) (id : BlockId) (held : Held) (at : ℕ) (k : Class) (w : Word) → StandsFor p z → tree.get id_cmp p.blocks id ≡ Some held → class_at held.layout at ≡ Some k
-    → slice_get held.words.items at ≡ Some w → HasWord p.blocks id at k w
-has_word p z id held at k w s there kind is = record {
-  held = held;
-  there = there;
-  class_is = kind;
-  is = is;
-  number = λ plain.
-      let found = (s.sound.filled id (seen held) (shown_block p z id held s there)).numbers at (kind ∙ ap Some plain) in
-      (found.0, some_one w (word.Number found.0) (sym is ∙ found.1));
-}
-
 -- the word, as the state has it
-pub word_is : (p : Plain) (z : State) (reg at : ℕ) (id : BlockId) (k : Class) (w : Word) → StandsFor p z → z.registers p.thread reg ≡ Some id → HasWord p.blocks id at k w → word_at z (z.registers p.thread reg) at ≡ Some w
-word_is p z reg at id k w s h found = rw (h, shown_block p z id found.held s found.there) found.is
+pub word_is : (p : Plain) (z : State) (reg at : ℕ) (id : BlockId) (k : Class) (w : Word) → Shows p z → z.registers p.thread reg ≡ Some id → HasWord p.blocks id at k w → word_at z (z.registers p.thread reg) at ≡ Some w
+word_is p z reg at id k w s h found = rw (h, shown_block p z id found.block s found.there) found.is
 
 -- the block to which a word refers is there
 pub referent_there : (p : Plain) (z : State) (id : BlockId) (at : ℕ) (k : Class) (w : Word) → StandsFor p z → HasWord p.blocks id at k w → (b : BlockId) → referent (Some w) ≡ Some b → IsThere z b
@@ -152,4 +123,19 @@ referent_there p z id at k w s found b is = go w refl is
     go : (v : Word) → w ≡ v → referent (Some v) ≡ Some b → IsThere z b
     go word.Null e h = cc
     go (word.Number n) e h = cc
-    go (word.Block d) e h = s.sound.words id b (seen found.held, at, shown_block p z id found.held s found.there, found.is ∙ ap Some e ∙ ap Some (ap word.Block (some_one d b h)))
+    go (word.Block d) e h = s.sound.words id b (seen found.block, at, shown_block p z id found.block s.shows found.there, found.is ∙ ap Some e ∙ ap Some (ap word.Block (some_one d b h)))
+
+pub takes_reference : (l : Layout) (at : ℕ) (v : Option BlockId) → class_at l at ≡ Some class.Strong → Takes l at (reference v)
+takes_reference l at None h = rw h tt
+takes_reference l at (Some b) h = rw h tt
+
+pub takes_number : (l : Layout) (at n : ℕ) → class_at l at ≡ Some class.Plain → Takes l at (word.Number n)
+takes_number l at n h = rw h tt
+
+same_block : (a b : BlockId) → word.Block a ≡ word.Block b → a ≡ b
+same_block a b h = cc
+
+-- what is stored is what a register holds
+pub stored_is : (v : Option BlockId) (b : BlockId) → reference v ≡ word.Block b → v ≡ Some b
+stored_is None b h = cc
+stored_is (Some a) b h = ap Some (same_block a b h)

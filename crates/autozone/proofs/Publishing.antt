@@ -1,42 +1,36 @@
 -- The steps of the calls that make blocks escape
-use Rattle.std.proofs.Common.{◌≡◌, ℕ, Bool, true, false, cond, not, Option, Some, None, IsSome, IsTrue, MatchOption, refl, sym, ap, subst, ◌∙◌, ◌≤◌, arith, nat_lt, inl, inr}
-use Rattle.std.proofs.lemmas.Bool.Decides.{nat_tests}
+use Rattle.std.proofs.Common.{◌≡◌, ℕ, ◌⊎◌, inl, inr, Bool, true, false, cond, not, Option, Some, None, IfSome, IsTrue, is_some, refl, sym, ap, subst, ◌∙◌}
+use Rattle.std.specs.Option.{option_map, option_and_then}
+use Rattle.std.specs.FinMap.{get}
 use Rattle.az_base.specs.declared.block_id.BlockId.{BlockId}
 use Rattle.az_base.specs.declared.misuse.Misuse.{Misuse}
 use Rattle.az_base.specs.declared.misuse.Misuse.TheVariants as misuse
-use Rattle.zone_model.specs.declared.call.Call.{Call}
-use Rattle.zone_model.specs.declared.entry.Entry.{Entry}
-use Rattle.zone_model.specs.declared.entry.Reply.TheVariants as reply
 use Rattle.az_base.specs.declared.word.Class.{Class}
-use Rattle.az_base.specs.declared.word.Word.TheVariants as word
-use Rattle.zone_model.specs.State.{State, is_escaped, reference}
+use Rattle.zone_model.specs.declared.call.Call.{Call}
+use Rattle.zone_model.specs.declared.call.Call.TheVariants as call
+use Rattle.zone_model.specs.declared.entry.Reply.{Reply}
+use Rattle.zone_model.specs.declared.entry.Reply.TheVariants as reply
+use Rattle.block_layouts.specs.Layouts.{class_at}
+use Rattle.zone_model.specs.State.{State, Block, is_escaped}
+use Rattle.zone_model.specs.Effect.{Effect}
+use Rattle.zone_model.specs.Escape.{Need, EscOf, HoldsEscaped, Tells, with_escaped}
+use Rattle.zone_model.specs.Misuses.{misuse_of, is_overfull}
+use Rattle.zone_model.specs.Quanta.{quanta_needed}
+use Rattle.zone_model.specs.Step.{Step}
+use Rattle.shared_heap.specs.Shared.{Shared}
+use Rattle.shared_heap.specs.Stored.{Kept}
+use Rattle.shared_heap.specs.Stands.{Stands, kept_of, escaped_view}
+use Rattle.shared_heap.specs.Steps as shared
+use Rattle.shared_heap.specs.Words.{word_misuse, class_misuse}
+use Rattle.shared_heap.proofs.Stepping.{none_escape}
+use Rattle.shared_heap.proofs.Sums.{used_stands}
 use Rattle.autozone.specs.declared.plain.zone.Plain.{Plain}
-use Rattle.autozone.specs.Soundness.{IsThere}
 use Rattle.autozone.specs.StandsFor.{StandsFor}
-use Rattle.autozone.proofs.Marking.{value_escaped, there_still, was_or_needed}
-use Rattle.zone_model.specs.Escape.{Need, EscOf, Tells, with_escaped}
-use Rattle.zone_model.specs.Misuses.{misuse_of}
-use Rattle.zone_model.specs.Step.{Step, Happens}
-
--- the step of a call that is no misuse, where these blocks escape
-pub step_escapes : (z : State) (e : Entry) (need : BlockId → Bool) (after : State) → z.ended e.thread ≡ false → Tells need (Need z e.thread e.call)
-    → misuse_of z e.thread e.call need ≡ None → Happens (with_escaped z need) e.thread e.call e.reply after → Step z e after
-step_escapes z e need after running tells right happens = record {
-  running = running;
-  need = need;
-  needed = tells;
-  does = subst (λ (m : Option Misuse). MatchOption m (Happens (with_escaped z need) e.thread e.call e.reply after) (λ m. (e.reply ≡ reply.Misuse m) × (after ≡ z))) (sym right) happens;
-}
-
--- the step of a misuse, where these blocks would escape
-pub step_refuses : (z : State) (e : Entry) (need : BlockId → Bool) (m : Misuse) → z.ended e.thread ≡ false → Tells need (Need z e.thread e.call)
-    → misuse_of z e.thread e.call need ≡ Some m → e.reply ≡ reply.Misuse m → Step z e z
-step_refuses z e need m running tells wrong says = record {
-  running = running;
-  need = need;
-  needed = tells;
-  does = subst (λ (o : Option Misuse). MatchOption o (Happens (with_escaped z need) e.thread e.call e.reply z) (λ m. (e.reply ≡ reply.Misuse m) × (z ≡ z))) (sym wrong) (says, refl);
-}
+use Rattle.autozone.proofs.Answered.{IsQuiet, Leads, answered}
+use Rattle.autozone.proofs.Escaping.{nothing_more, value_escaped, sound_heap, some_need, escaped_still}
+use Rattle.autozone.proofs.Moving.{escape_at, got_escaped}
+use Rattle.autozone.proofs.Leading.{composed}
+use Rattle.autozone.proofs.Shared.{all_in_heap}
 
 -- the least misuse of a call that has one of the first three
 pub first_some : (a b c : Bool) (m : Misuse) (rest : Option Misuse) → cond a (Some misuse.NullBlock) (cond b (Some misuse.NoWord) (cond c (Some misuse.WrongClass) None)) ≡ Some m
@@ -54,22 +48,85 @@ first_none false true c rest h = cc
 first_none false false true rest h = cc
 first_none false false false rest h = refl
 
-same_block : (a b : BlockId) → word.Block a ≡ word.Block b → a ≡ b
-same_block a b h = cc
+-- the misuse where the blocks would be too many
+pub full_if : (b fit : Bool) → b ≡ not fit → fit ≡ false → cond b (Some misuse.ZoneFull) None ≡ Some misuse.ZoneFull
+full_if b fit e f = ap (λ t. cond t (Some misuse.ZoneFull) None) (e ∙ ap not f)
 
-pub some_class : {a b : Class} → Some a ≡ Some b → a ≡ b
-some_class h = cc
+pub fits_if : (b fit : Bool) → b ≡ not fit → fit ≡ true → cond b (Some misuse.ZoneFull) None ≡ None
+fits_if b fit e f = ap (λ t. cond t (Some misuse.ZoneFull) None) (e ∙ ap not f)
 
--- what is stored is there
-pub stored_there : (p : Plain) (z : State) (need : BlockId → Bool) (from : ℕ) (v : Option BlockId) → StandsFor p z → z.registers p.thread from ≡ v → (b : BlockId) → reference v ≡ word.Block b → IsThere (with_escaped z need) b
-stored_there p z need from None s held b h = cc
-stored_there p z need from (Some id) s held b h = there_still z need b (s.sound.registers from b (held ∙ ap Some (same_block id b h)))
+-- nothing more always fits
+pub nothing_full : (p : Plain) (z : State) → StandsFor p z → is_overfull z (quanta_needed z (λ _. false)) ≡ false
+nothing_full p z s = nothing_more p z s.shows (rw (← used_stands p.heap z s.shows.heap, ← s.shows.heap.options) s.sound.fits)
 
--- and has escaped where the block into which it is stored has
-pub stored_escaped : (p : Plain) (z : State) (need : BlockId → Bool) (into : BlockId) (from : ℕ) (v : Option BlockId) → StandsFor p z → z.registers p.thread from ≡ v → IsThere z into
-    → Tells need (λ k. IsTrue (is_escaped z into) × EscOf z v k) → (b : BlockId) → reference v ≡ word.Block b → IsTrue (is_escaped (with_escaped z need) into) → IsTrue (is_escaped (with_escaped z need) b)
-stored_escaped p z need into from None s held there tells b h out = cc
-stored_escaped p z need into from (Some id) s held there tells b h out =
-    let is : id ≡ b = same_block id b h in
-    let was : IsTrue (is_escaped z into) = elim (was_or_needed z need into out) [ inl e ↦ e | inr n ↦ ((tells into).0 n).0 ] in
-    value_escaped z need (Some id) b (λ k. (λ t. ((tells k).0 t).1, λ e. (tells k).1 (was, e))) (ap Some is) (s.sound.registers from b (held ∙ ap Some is))
+-- a test for one block, where there is no second one
+pub one_first : (z : State) (need : BlockId → Bool) (v w : Option BlockId) → v ≡ w → Tells need (λ c. EscOf z v c ⊎ EscOf z None c) → Tells need (EscOf z w)
+one_first z need v w same tells c = (λ h. elim ((tells c).0 h) [ inl e ↦ subst (λ o. EscOf z o c) same e | inr e ↦ absurd e ], λ e. (tells c).1 (inl (subst (λ o. EscOf z o c) (sym same) e)))
+
+-- what is stored has escaped
+pub first_out : (p : Plain) (z : State) (need : BlockId → Bool) (v second : Option BlockId) (from : ℕ) → StandsFor p z → z.registers p.thread from ≡ v → Tells need (λ c. EscOf z v c ⊎ EscOf z second c) → IfSome v (λ id. IsTrue (is_escaped (with_escaped z need) id))
+first_out p z need None second from s holds tells = tt
+first_out p z need (Some id) second from s holds tells = value_escaped z need (Some id) second id tells (inl refl) (s.sound.registers from id holds)
+
+-- after an escape nothing more escapes
+pub none_more : (m : Plain) (y : State) (v : Option BlockId) → StandsFor m y → IfSome v (λ id. IsTrue (is_escaped y id)) → (id : BlockId) → EscOf y v id → ⊥
+none_more m y v s out = none_escape m.heap y v s.shows.heap (sound_heap m.thread y s.sound) (all_in_heap m.heap y v s.shows.heap out)
+
+-- the step of a call of the heap after an escape
+pub published : (p m n : Plain) (z : State) (need : BlockId → Bool) (call : Call) (right r : Reply) (x : State) → StandsFor p z → m.thread ≡ p.thread → Tells need (Need z p.thread call) → misuse_of z p.thread call need ≡ None
+    → IsQuiet (with_escaped z need) m.thread call → ((k : Misuse) → right ≡ reply.Misuse k → ⊥) → x.cycle ≡ None → r ≡ right → ((mid : State) → Effect (with_escaped z need) m.thread call right mid → mid ≡ x)
+    → (Stands n.heap x → StandsFor n x) → shared.Stepped n.heap (with_escaped z need) m.thread call r → Leads p n z call r
+published p m n z need call right r x s same tells fits quiet fine still says does stands stepped =
+    let y = with_escaped z need in
+    let led = answered m n y call None right r x quiet fine still says does (λ mid e is _. stands) (λ k is. absurd (fine k (sym says ∙ is))) stepped in
+    let step = subst (λ t. Step y (record { thread = t; call = call; reply = r }) led.0) same led.1 in
+    let none : (id : BlockId) → Need y p.thread call id → ⊥ = subst (λ t. (id : BlockId) → Need y t call id → ⊥) same quiet.none in
+    (led.0, composed z (record { thread = p.thread; call = call; reply = r }) need led.0 s.shows.running tells fits none (λ k is. fine k (sym says ∙ is)) step, led.2)
+
+-- a block into which something is stored has escaped, where it is no misuse
+pub holds_escaped : (h : Shared) (z : State) (a : Option BlockId) (at : ℕ) (k : Class) → word_misuse h a at k ≡ None → IfSome a (λ id. IsTrue (is_escaped z id)) → HoldsEscaped z a
+holds_escaped h z None at k right out = cc
+holds_escaped h z (Some id) at k right out = out
+
+pub known_out : (y : State) (v : Option BlockId) → IfSome v (λ id. IsTrue (is_escaped y id)) → (id : BlockId) → v ≡ Some id → IsTrue (is_escaped y id)
+known_out y None out id h = cc
+known_out y (Some a) out id h = subst (λ x. IsTrue (is_escaped y x)) (same_one a id h) out
+  where
+    same_one : (a b : BlockId) → Some a ≡ Some b → a ≡ b
+    same_one a b h = cc
+
+-- what a store into an escaped block makes escape
+pub store_tells : (z : State) (t : ℕ) (need : BlockId → Bool) (into at from : ℕ) (v : Option BlockId) → v ≡ z.registers t from → HoldsEscaped z (z.registers t into) → Tells need (λ c. EscOf z v c ⊎ EscOf z None c) → Tells need (Need z t (call.Store into at from))
+store_tells z t need into at from v same holds tells c = let one = one_first z need v (z.registers t from) same tells c in (λ h. (holds, one.0 h), λ n. one.1 n.1)
+
+-- there is a test for it, also where it is a misuse
+pub store_need : (p : Plain) (z : State) (into at from : ℕ) → StandsFor p z → IfSome (z.registers p.thread into) (λ id. IsTrue (is_escaped z id)) → (need : BlockId → Bool) × Tells need (Need z p.thread (call.Store into at from))
+store_need p z into at from s out = go (z.registers p.thread into) refl out
+  where
+    go : (a : Option BlockId) → z.registers p.thread into ≡ a → IfSome a (λ id. IsTrue (is_escaped z id)) → (need : BlockId → Bool) × Tells need (Need z p.thread (call.Store into at from))
+    go None e out = ((λ _. false), λ c. (λ h. cc, λ n. absurd (subst (HoldsEscaped z) e n.0)))
+    go (Some a) e out =
+        let some = some_need p z (z.registers p.thread from) None s in
+        (some.0, store_tells z p.thread some.0 into at from (z.registers p.thread from) refl (subst (HoldsEscaped z) (sym e) out) some.1)
+
+-- what has escaped stays so
+pub out_still : (z : State) (need : BlockId → Bool) (a : Option BlockId) → IfSome a (λ id. IsTrue (is_escaped z id)) → IfSome a (λ id. IsTrue (is_escaped (with_escaped z need) id))
+out_still z need None out = tt
+out_still z need (Some id) out = escaped_still z need id out
+
+-- the word that a call names is of the same class after an escape
+pub misuse_still : (h g : Shared) (z : State) (need : BlockId → Bool) (a : Option BlockId) (at : ℕ) (k : Class) → Stands h z → Stands g (with_escaped z need) → IfSome a (λ id. IsTrue (is_escaped z id)) → word_misuse g a at k ≡ word_misuse h a at k
+misuse_still h g z need None at k s t out = refl
+misuse_still h g z need (Some id) at k s t out = ap (class_misuse k) (go out)
+  where
+    one : (b : Block) (v : Option ℕ) → b.since ≡ v → (t : Bool) → IsTrue (is_some b.since) → option_and_then (λ (e : Kept). class_at e.layout at) (kept_of z.reclaims (escape_at z t b)) ≡ option_and_then (λ (e : Kept). class_at e.layout at) (kept_of z.reclaims b)
+    one b None e t h = let no = rw e at h in cc (no)
+    one b (Some n) e true h = rw e refl
+    one b (Some n) e false h = refl
+
+    same : (o : Option Block) → IsTrue (is_some (option_and_then (λ (b : Block). b.since) o)) → option_and_then (λ (e : Kept). class_at e.layout at) (escaped_view z.reclaims (option_map (escape_at z (need id)) o)) ≡ option_and_then (λ (e : Kept). class_at e.layout at) (escaped_view z.reclaims o)
+    same None h = cc
+    same (Some b) h = one b b.since refl (need id) h
+
+    go : IsTrue (is_some (option_and_then (λ (b : Block). b.since) (get z.blocks id))) → option_and_then (λ (e : Kept). class_at e.layout at) (get g.blocks id) ≡ option_and_then (λ (e : Kept). class_at e.layout at) (get h.blocks id)
+    go out = ap (option_and_then (λ (e : Kept). class_at e.layout at)) (t.blocks id ∙ ap (escaped_view z.reclaims) (got_escaped z need id)) ∙ same (get z.blocks id) out ∙ sym (ap (option_and_then (λ (e : Kept). class_at e.layout at)) (s.blocks id))

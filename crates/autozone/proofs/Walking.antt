@@ -1,11 +1,10 @@
--- A walk along references finds what the first block leads to, and ends
+-- A walk along references finds what the first blocks lead to, and ends
 use Rattle.std.proofs.Common.{◌≡◌, ℕ, ◌+◌, ◌<◌, ◌≤◌, zero, suc, Bool, true, false, cond, ◌||◌, List, [], ◌∷◌, ◌++◌, length, Option, Some, None, IsSome, slice_get, nat_lt, refl, sym, ap, subst, ◌∙◌, arith, ◌⊎◌, inl, inr}
 use Rattle.std.proofs.lemmas.Bool.Decides.{nat_tests}
 use Rattle.std.specs.Map.{lookup, remove_entry}
 use Rattle.std.specs.Option.{option_map_or}
 use Rattle.std.specs.BTreeMap as tree
 use Rattle.std.specs.BTreeMap.{is_at}
-use Rattle.std.specs.declared.cmp.Ordering.{Ordering}
 use Rattle.std.specs.declared.cmp.Ordering.TheVariants.{Less, Equal, Greater}
 use Rattle.std.specs.Ordering.{is_eq}
 use Rattle.std.specs.Cmp.{eq_by_cmp_equiv, tied_itself}
@@ -15,8 +14,8 @@ use Rattle.az_base.specs.declared.word.Word.TheVariants as word
 use Rattle.az_base.specs.Ids.{id_cmp, among, same_id, ids_total, exact_ids}
 use Rattle.zone_model.specs.State.{referent}
 use Rattle.zone_model.specs.Reach.{Path, Leads}
-use Rattle.autozone.specs.declared.plain.zone.Held.{Held}
-use Rattle.autozone.specs.Escapes.{Blocks, IsOwn, unescaped_quanta, quanta_unescaped, words_at, Refers, Visits, Distinct, Follows, Walked, IsPlan}
+use Rattle.autozone.specs.declared.plain.zone.Own.{Own}
+use Rattle.autozone.specs.Escapes.{Blocks, IsOwn, words_at, Refers, Visits, Distinct, Follows, IsFirst, Walked, IsPlan}
 
 pub one_of : (b : Bool) → (b ≡ true) ⊎ (b ≡ false)
 one_of true = inl refl
@@ -164,42 +163,67 @@ followed_all m old new words n l f = record {
 }
 
 -- what the block at a place refers to was followed
-pub follows_there : (m : Blocks) (old new : List BlockId) (at : ℕ) (id q : BlockId) (held : Held) (words : List Word) → slice_get old at ≡ Some id → tree.get id_cmp m id ≡ Some held → words ≡ held.words.items → slice_get old at ≡ Some q
+pub follows_there : (m : Blocks) (old new : List BlockId) (at : ℕ) (id q : BlockId) (own : Own) (words : List Word) → slice_get old at ≡ Some id → tree.get id_cmp m id ≡ Some own → words ≡ own.words.items → slice_get old at ≡ Some q
     → Follows m old new words → Follows m old new (words_at m q)
-follows_there m old new at id q held words is there same asked f =
+follows_there m old new at id q own words is there same asked f =
     let e : id ≡ q = some_id id q (sym is ∙ asked) in
-    subst (Follows m old new) (same ∙ sym (ap (λ (o : Option Held). option_map_or (λ h. h.words.items) o []) (ap (tree.get id_cmp m) (sym e) ∙ there))) f
+    subst (Follows m old new) (same ∙ sym (ap (λ (o : Option Own). option_map_or (λ b. b.words.items) o []) (ap (tree.get id_cmp m) (sym e) ∙ there))) f
 
 pub follows_missing : (m : Blocks) (old new : List BlockId) (at : ℕ) (id q : BlockId) (words : List Word) → slice_get old at ≡ Some id → tree.get id_cmp m id ≡ None → words ≡ [] → slice_get old at ≡ Some q
     → Follows m old new words → Follows m old new (words_at m q)
 follows_missing m old new at id q words is there same asked f =
     let e : id ≡ q = some_id id q (sym is ∙ asked) in
-    subst (Follows m old new) (same ∙ sym (ap (λ (o : Option Held). option_map_or (λ h. h.words.items) o []) (ap (tree.get id_cmp m) (sym e) ∙ there))) f
+    subst (Follows m old new) (same ∙ sym (ap (λ (o : Option Own). option_map_or (λ b. b.words.items) o []) (ap (tree.get id_cmp m) (sym e) ∙ there))) f
 
 path_more : (m : Blocks) (a : BlockId) (steps : List BlockId) (b c : BlockId) → Path (Refers m) a steps b → Refers m b c → Leads (Refers m) a c
 path_more m a [] b c p r = (c ∷ [], (subst (λ x. Refers m x c) (sym p) r, refl))
 path_more m a (d ∷ steps) b c p r = let rest = path_more m d steps b c p.1 r in (d ∷ rest.0, (p.0, rest.1))
 
--- the list after the first block was visited
-pub walked_first : (m : Blocks) (first : Option BlockId) (new : List BlockId) → Visits m [] new first → Walked m first new
-walked_first m None new v = subst (Walked m None) (sym v) record { own = λ q h. cc; led = λ q h. cc; begun = λ f h. cc; distinct = tt }
-walked_first m (Some id) new v = elim v [
-  | inl not_own ↦ subst (Walked m (Some id)) (sym not_own.0) record {
-    own = λ q h. cc;
-    led = λ q h. cc;
-    begun = λ f h own. not_own.1 (subst (IsOwn m) (sym (some_id id f h)) own);
-    distinct = tt;
+-- the empty list, before any block was visited
+pub walked_none : (m : Blocks) → Walked m (λ _. ⊥) []
+walked_none m = record { own = λ q h. cc; led = λ q h. cc; begun = λ f h. absurd h; distinct = tt }
+
+-- the same walk from other first blocks
+pub walked_from : (m : Blocks) (F G : BlockId → Type 0) (ids : List BlockId) → ((f : BlockId) → F f → G f) → ((f : BlockId) → G f → F f) → Walked m F ids → Walked m G ids
+walked_from m F G ids to back w = record {
+  own = w.own;
+  led = λ q h. let l = w.led q h in (l.0, to l.0 l.1, l.2);
+  begun = λ f g own. w.begun f (back f g) own;
+  distinct = w.distinct;
+}
+
+-- the list after one more first block was visited
+pub walked_also : (m : Blocks) (F : BlockId → Type 0) (old new : List BlockId) (o : Option BlockId) → Walked m F old → Visits m old new o → Walked m (λ f. F f ⊎ (o ≡ Some f)) new
+walked_also m F old new None w v = subst (Walked m (λ f. F f ⊎ (None ≡ Some f))) (sym v) (walked_from m F (λ f. F f ⊎ (None ≡ Some f)) old (λ f h. inl h) (λ f h. elim h [ inl was ↦ was | inr now ↦ cc ]) w)
+walked_also m F old new (Some id) w v = elim v [
+  | inl there ↦ subst (Walked m (λ f. F f ⊎ (Some id ≡ Some f))) (sym there.0) record {
+    own = w.own;
+    led = λ q h. let l = w.led q h in (l.0, inl l.1, l.2);
+    begun = λ f h own. elim h [
+      | inl was ↦ w.begun f was own
+      | inr now ↦ let is : id ≡ f = some_id id f now in subst (λ x. among old x ≡ true) is (there.1 (subst (IsOwn m) (sym is) own))
+    ];
+    distinct = w.distinct;
   }
-  | inr own ↦ subst (Walked m (Some id)) (sym own.0) record {
-    own = λ q h. subst (IsOwn m) (sym (only q h)) own.1;
-    led = λ q h. (id, refl, ([], sym (only q h)));
-    begun = λ f h is. subst (λ x. among (id ∷ []) x ≡ true) (some_id id f h) (among_last [] id);
-    distinct = (refl, tt);
+  | inr added ↦ subst (Walked m (λ f. F f ⊎ (Some id ≡ Some f))) (sym added.0) record {
+    own = λ q h. elim (among_cases old id q h) [ inl was ↦ w.own q was | inr now ↦ subst (IsOwn m) (sym now) added.1 ];
+    led = λ q h. elim (among_cases old id q h) [
+      | inl was ↦ let l = w.led q was in (l.0, inl l.1, l.2)
+      | inr now ↦ (id, inr refl, ([], sym now))
+    ];
+    begun = λ f h own. elim h [
+      | inl was ↦ among_kept old id f (w.begun f was own)
+      | inr now ↦ subst (λ x. among (old ++ id ∷ []) x ≡ true) (some_id id f now) (among_last old id)
+    ];
+    distinct = distinct_more old id w.distinct added.2;
   }
 ]
-  where
-    only : (q : BlockId) → among (id ∷ []) q ≡ true → q ≡ id
-    only q h = elim (among_cases [] id q h) [ inl none ↦ cc | inr e ↦ e ]
+
+-- the list after both first blocks were visited
+pub walked_both : (m : Blocks) (first second : Option BlockId) (mid new : List BlockId) → Visits m [] mid first → Visits m mid new second → Walked m (IsFirst first second) new
+walked_both m first second mid new v w =
+    walked_from m _ (IsFirst first second) new (λ f h. elim h [ inl was ↦ elim was [ inl none ↦ absurd none | inr one ↦ inl one ] | inr two ↦ inr two ]) (λ f h. elim h [ inl one ↦ inl (inr one) | inr two ↦ inr two ])
+    (walked_also m _ mid new second (walked_also m _ [] mid first (walked_none m) v) w)
 
 among_of : (ids : List BlockId) (k : ℕ) (q : BlockId) → slice_get ids k ≡ Some q → among ids q ≡ true
 among_of [] k q h = cc
@@ -219,8 +243,8 @@ place_of (x ∷ ids) q h = go (same_id q x) refl h (place_of ids q)
     go false e h rest = let found = rest h in (suc found.0, found.1)
 
 -- the references of one more block were followed
-pub walked_more : (m : Blocks) (first : Option BlockId) (old new : List BlockId) (at : ℕ) (a : BlockId) → Walked m first old → slice_get old at ≡ Some a → Follows m old new (words_at m a) → Walked m first new
-walked_more m first old new at a w is f = record {
+pub walked_more : (m : Blocks) (F : BlockId → Type 0) (old new : List BlockId) (at : ℕ) (a : BlockId) → Walked m F old → slice_get old at ≡ Some a → Follows m old new (words_at m a) → Walked m F new
+walked_more m F old new at a w is f = record {
   own = λ q h. elim (f.added q h) [ inl was ↦ w.own q was | inr now ↦ now.0 ];
   led = λ q h. elim (f.added q h) [
     | inl was ↦ w.led q was
@@ -249,24 +273,24 @@ done_more m old new at c is f done k a b l asked r own = elim (last_or_before at
       f.closed r.0 b (ap (λ x. slice_get (words_at m x) r.0) e ∙ r.1) own
 ]
 
-pub planned : (m : Blocks) (first : Option BlockId) (ids : List BlockId) (at : ℕ) → length ids ≤ at → Walked m first ids
-    → ((k : ℕ) (a b : BlockId) → k < at → slice_get ids k ≡ Some a → Refers m a b → IsOwn m b → among ids b ≡ true) → IsPlan m first ids
-planned m first ids at l w done = record {
+pub planned : (m : Blocks) (F : BlockId → Type 0) (ids : List BlockId) (at : ℕ) → length ids ≤ at → Walked m F ids
+    → ((k : ℕ) (a b : BlockId) → k < at → slice_get ids k ≡ Some a → Refers m a b → IsOwn m b → among ids b ≡ true) → IsPlan m F ids
+planned m F ids at l w done = record {
   walked = w;
   closed = λ a b h r own. let place = place_of ids a h in let b_lt : place.0 < length ids = within ids place.0 a place.1 in done place.0 a b (omega (arith, l, b_lt)) place.1 r own;
 }
 
 -- blocks that stand in the map, each once, are no more than the map has
-length_removed : (id : BlockId) (es : List (BlockId × Held)) (held : Held) → lookup (is_at (id_cmp id)) es ≡ Some held → length es ≡ suc (length (remove_entry (is_at (id_cmp id)) es))
-length_removed id [] held h = cc
-length_removed id (e ∷ es) held h = go (is_at (id_cmp id) e.0) refl h (length_removed id es held)
+length_removed : (id : BlockId) (es : List (BlockId × Own)) (b : Own) → lookup (is_at (id_cmp id)) es ≡ Some b → length es ≡ suc (length (remove_entry (is_at (id_cmp id)) es))
+length_removed id [] b h = cc
+length_removed id (e ∷ es) b h = go (is_at (id_cmp id) e.0) refl h (length_removed id es b)
   where
-    go : (b : Bool) → is_at (id_cmp id) e.0 ≡ b → cond b (Some e.1) (lookup (is_at (id_cmp id)) es) ≡ Some held → (lookup (is_at (id_cmp id)) es ≡ Some held → length es ≡ suc (length (remove_entry (is_at (id_cmp id)) es)))
-        → suc (length es) ≡ suc (length (cond b es (e ∷ remove_entry (is_at (id_cmp id)) es)))
+    go : (t : Bool) → is_at (id_cmp id) e.0 ≡ t → cond t (Some e.1) (lookup (is_at (id_cmp id)) es) ≡ Some b → (lookup (is_at (id_cmp id)) es ≡ Some b → length es ≡ suc (length (remove_entry (is_at (id_cmp id)) es)))
+        → suc (length es) ≡ suc (length (cond t es (e ∷ remove_entry (is_at (id_cmp id)) es)))
     go true t h rest = refl
     go false t h rest = ap suc (rest h)
 
-lookup_other : (id q : BlockId) (es : List (BlockId × Held)) → same_id q id ≡ false → lookup (is_at (id_cmp q)) (remove_entry (is_at (id_cmp id)) es) ≡ lookup (is_at (id_cmp q)) es
+lookup_other : (id q : BlockId) (es : List (BlockId × Own)) → same_id q id ≡ false → lookup (is_at (id_cmp q)) (remove_entry (is_at (id_cmp id)) es) ≡ lookup (is_at (id_cmp q)) es
 lookup_other id q [] h = refl
 lookup_other id q (e ∷ es) h = go (same_id id e.0) refl (same_id q e.0) refl (lookup_other id q es h)
   where
@@ -277,14 +301,15 @@ lookup_other id q (e ∷ es) h = go (same_id id e.0) refl (same_id q e.0) refl (
     go false i true j rest = rw j refl
     go false i false j rest = rw j rest
 
-some_held : (m : Blocks) (q : BlockId) → IsOwn m q → (held : Held) × (tree.get id_cmp m q ≡ Some held)
-some_held m q h = go (tree.get id_cmp m q) refl h
+-- an unescaped block, as the map has it
+pub own_there : (m : Blocks) (q : BlockId) → IsOwn m q → (b : Own) × (tree.get id_cmp m q ≡ Some b)
+own_there m q h = go (tree.get id_cmp m q) refl h
   where
-    go : (o : Option Held) → tree.get id_cmp m q ≡ o → IsSome (quanta_unescaped o) → (held : Held) × (tree.get id_cmp m q ≡ Some held)
+    go : (o : Option Own) → tree.get id_cmp m q ≡ o → IsSome o → (b : Own) × (tree.get id_cmp m q ≡ Some b)
     go None e h = cc
-    go (Some held) e h = (held, e)
+    go (Some b) e h = (b, e)
 
-no_more : (ids : List BlockId) (es : List (BlockId × Held)) → Distinct ids → ((q : BlockId) → among ids q ≡ true → (held : Held) × (lookup (is_at (id_cmp q)) es ≡ Some held)) → length ids ≤ length es
+no_more : (ids : List BlockId) (es : List (BlockId × Own)) → Distinct ids → ((q : BlockId) → among ids q ≡ true → (b : Own) × (lookup (is_at (id_cmp q)) es ≡ Some b)) → length ids ≤ length es
 no_more [] es d there = omega arith
 no_more (id ∷ ids) es d there =
     let here = there id (ap (λ b. b || among ids id) (same_self id)) in
@@ -302,18 +327,18 @@ no_more (id ∷ ids) es d there =
     apart q h true e = let no : false ≡ true = sym d.0 ∙ ap (among ids) (sym (same_is q id e)) ∙ h in cc (no)
     apart q h false e = e
 
-pub few_found : (m : Blocks) (first : Option BlockId) (ids : List BlockId) → Walked m first ids → length ids ≤ length m.entries
-few_found m first ids w = no_more ids m.entries w.distinct (λ q h. some_held m q (w.own q h))
+pub few_found : (m : Blocks) (F : BlockId → Type 0) (ids : List BlockId) → Walked m F ids → length ids ≤ length m.entries
+few_found m F ids w = no_more ids m.entries w.distinct (λ q h. own_there m q (w.own q h))
 
 -- the walk as a function on lists: there always is a plan
 visited : (m : Blocks) (old : List BlockId) (o : Option BlockId) → (new : List BlockId) × Visits m old new o
 visited m old None = (old, refl)
-visited m old (Some id) = go (unescaped_quanta m id) refl (among old id) refl
+visited m old (Some id) = go (tree.get id_cmp m id) refl (among old id) refl
   where
-    go : (q : Option ℕ) → unescaped_quanta m id ≡ q → (b : Bool) → among old id ≡ b → (new : List BlockId) × Visits m old new (Some id)
-    go None e b f = (old, inl (refl, λ own. let no : IsSome {T = ℕ} None = subst IsSome e own in cc))
-    go (Some n) e true f = (old, inl (refl, λ own. f))
-    go (Some n) e false f = (old ++ id ∷ [], inr (refl, subst IsSome (sym e) refl, f))
+    go : (o : Option Own) → tree.get id_cmp m id ≡ o → (b : Bool) → among old id ≡ b → (new : List BlockId) × Visits m old new (Some id)
+    go None e b f = (old, inl (refl, λ own. let no : IsSome {T = Own} None = subst IsSome e own in cc))
+    go (Some b) e true f = (old, inl (refl, λ own. f))
+    go (Some b) e false f = (old ++ id ∷ [], inr (refl, subst IsSome (sym e) refl, f))
 
 word_there : (words : List Word) (n : ℕ) → n < length words → (w : Word) × (slice_get words n ≡ Some w)
 word_there [] n h = absurd (omega (arith, h))
@@ -330,21 +355,22 @@ followed_on m old mid words (suc left) n e f =
 followed : (m : Blocks) (old : List BlockId) (words : List Word) → (new : List BlockId) × Follows m old new words
 followed m old words = followed_on m old old words (length words) 0 (omega arith) (followed_none m old words)
 
-walked_on : (m : Blocks) (first : Option BlockId) (ids : List BlockId) (left at : ℕ) → length m.entries ≤ at + left → Walked m first ids
-    → ((k : ℕ) (a b : BlockId) → k < at → slice_get ids k ≡ Some a → Refers m a b → IsOwn m b → among ids b ≡ true) → (found : List BlockId) × IsPlan m first found
-walked_on m first ids zero at e w done = (ids, planned m first ids at (let few : length ids ≤ length m.entries = few_found m first ids w in omega (arith, e, few)) w done)
-walked_on m first ids (suc left) at e w done = go (nat_lt at (length ids)) refl (λ new. walked_on m first new left (at + 1) (omega (arith, e)))
+walked_on : (m : Blocks) (F : BlockId → Type 0) (ids : List BlockId) (left at : ℕ) → length m.entries ≤ at + left → Walked m F ids
+    → ((k : ℕ) (a b : BlockId) → k < at → slice_get ids k ≡ Some a → Refers m a b → IsOwn m b → among ids b ≡ true) → (found : List BlockId) × IsPlan m F found
+walked_on m F ids zero at e w done = (ids, planned m F ids at (let few : length ids ≤ length m.entries = few_found m F ids w in omega (arith, e, few)) w done)
+walked_on m F ids (suc left) at e w done = go (nat_lt at (length ids)) refl (λ new. walked_on m F new left (at + 1) (omega (arith, e)))
   where
     go : (b : Bool) → nat_lt at (length ids) ≡ b
-        → ((new : List BlockId) → Walked m first new → ((k : ℕ) (a b : BlockId) → k < at + 1 → slice_get new k ≡ Some a → Refers m a b → IsOwn m b → among new b ≡ true) → (found : List BlockId) × IsPlan m first found)
-        → (found : List BlockId) × IsPlan m first found
-    go false t on = (ids, planned m first ids at (grind (arith, nat_tests)) w done)
+        → ((new : List BlockId) → Walked m F new → ((k : ℕ) (a b : BlockId) → k < at + 1 → slice_get new k ≡ Some a → Refers m a b → IsOwn m b → among new b ≡ true) → (found : List BlockId) × IsPlan m F found)
+        → (found : List BlockId) × IsPlan m F found
+    go false t on = (ids, planned m F ids at (grind (arith, nat_tests)) w done)
     go true t on =
         let here = has ids at (grind (arith, nat_tests)) in
         let f = followed m ids (words_at m here.0) in
-        on f.0 (walked_more m first ids f.0 at here.0 w here.1 f.1) (done_more m ids f.0 at here.0 here.1 f.1 done)
+        on f.0 (walked_more m F ids f.0 at here.0 w here.1 f.1) (done_more m ids f.0 at here.0 here.1 f.1 done)
 
-pub some_plan : (m : Blocks) (first : Option BlockId) → (found : List BlockId) × IsPlan m first found
-some_plan m first =
+pub some_plan : (m : Blocks) (first second : Option BlockId) → (found : List BlockId) × IsPlan m (IsFirst first second) found
+some_plan m first second =
     let v = visited m [] first in
-    walked_on m first v.0 (length m.entries) 0 (omega arith) (walked_first m first v.0 v.1) (λ k a b l. absurd (omega (arith, l)))
+    let w = visited m v.0 second in
+    walked_on m (IsFirst first second) w.0 (length m.entries) 0 (omega arith) (walked_both m first second v.0 w.0 v.1 w.1) (λ k a b l. absurd (omega (arith, l)))

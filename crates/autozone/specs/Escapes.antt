@@ -1,45 +1,49 @@
--- Blocks that escape together, as the plain zone finds and marks them
-use Rattle.std.specs.Prelude.{◌≡◌, ◌≤◌, ◌<◌, ◌+◌, ℕ, Bool, true, false, not, List, [], ◌∷◌, ◌++◌, Option, Some, None, IsSome, IsTrue, ◌⊎◌, slice_get, unwrap_or, if◌then◌else◌}
-use Rattle.std.specs.Option.{option_map, option_map_or, option_and_then}
+-- Blocks that escape together, as the plain zone finds them and takes them to the heap
+use Rattle.std.specs.Prelude.{◌≡◌, ◌≤◌, ◌+◌, ℕ, Bool, true, false, not, List, [], ◌∷◌, ◌++◌, Option, Some, None, IsSome, ◌⊎◌, map, slice_get, if◌then◌else◌}
+use Rattle.std.specs.Option.{option_map_or}
 use Rattle.std.specs.BTreeMap as tree
 use Rattle.std.specs.BTreeMap.{BTreeMap, is_at}
 use Rattle.std.specs.BTreeSet as set
+use Rattle.std.specs.FinMap.{get}
 use Rattle.az_base.specs.declared.block_id.BlockId.{BlockId}
 use Rattle.az_base.specs.declared.word.Word.{Word}
 use Rattle.az_base.specs.declared.word.Word.TheVariants as word
-use Rattle.az_base.specs.Ids.{id_cmp, among}
+use Rattle.az_base.specs.Ids.{id_cmp, among, same_id}
 use Rattle.block_layouts.specs.Layouts.{len_of, quanta}
-use Rattle.zone_model.specs.State.{State, Block, is_escaped}
+use Rattle.shared_heap.specs.Shared.{used_by, admitted}
+use Rattle.shared_heap.specs.Stands.{Stands}
+use Rattle.shared_heap.specs.Steps.{IsUnescaped}
+use Rattle.shared_heap.specs.Whole.{Whole}
+use Rattle.zone_model.specs.State.{State}
 use Rattle.zone_model.specs.Reach.{Leads}
 use Rattle.zone_model.specs.Escape.{Tells, EscOf, with_escaped}
 use Rattle.zone_model.specs.Misuses.{is_overfull}
 use Rattle.zone_model.specs.Quanta.{quanta_needed}
-use Rattle.autozone.specs.declared.plain.zone.Held.{Held}
+use Rattle.autozone.specs.declared.plain.zone.Own.{Own}
 use Rattle.autozone.specs.declared.plain.zone.Plain.{Plain}
 use Rattle.autozone.specs.declared.plain.escapes.Walk.{Walk}
-use Rattle.autozone.specs.Soundness.{IsThere}
-use Rattle.autozone.specs.StandsFor.{StandsFor, seen}
+use Rattle.autozone.specs.StandsFor.{StandsFor}
 
 abbrev pub Blocks : Type 0
-Blocks = BTreeMap BlockId Held
+Blocks = BTreeMap BlockId Own
 
--- the quanta of a block that hasn't escaped
-abbrev pub quanta_unescaped : Option Held → Option ℕ
-quanta_unescaped None = None
-quanta_unescaped (Some h) = if h.escaped then None else Some (quanta (len_of h.layout))
-
-abbrev pub unescaped_quanta : Blocks → BlockId → Option ℕ
-unescaped_quanta m id = quanta_unescaped (tree.get id_cmp m id)
-
--- the block is there, and hasn't escaped
+-- the block is an unescaped one of the thread
 abbrev pub IsOwn : Blocks → BlockId → Type 0
-IsOwn m id = IsSome (unescaped_quanta m id)
+IsOwn m id = IsSome (tree.get id_cmp m id)
 
--- the words of a block, where it is there
+-- the words of an unescaped block; none where it isn't one
 abbrev pub words_at : Blocks → BlockId → List Word
-words_at m id = option_map_or (λ h. h.words.items) (tree.get id_cmp m id) []
+words_at m id = option_map_or (λ b. b.words.items) (tree.get id_cmp m id) []
 
--- a word of a refers to b
+-- its length in words
+abbrev pub length_at : Blocks → BlockId → ℕ
+length_at m id = option_map_or (λ b. len_of b.layout) (tree.get id_cmp m id) 0
+
+-- its quanta
+abbrev pub quanta_at : Blocks → BlockId → ℕ
+quanta_at m id = option_map_or (λ b. quanta (len_of b.layout)) (tree.get id_cmp m id) 0
+
+-- a word of the unescaped block a refers to b
 abbrev pub Refers : Blocks → BlockId → BlockId → Type 0
 Refers m a b = (i : ℕ) × (slice_get (words_at m a) i ≡ Some (word.Block b))
 
@@ -65,51 +69,54 @@ pub record Follows (m : Blocks) (old new : List BlockId) (words : List Word) : T
   pub stays : (q : BlockId) → among old q ≡ true → among new q ≡ true
   pub distinct : Distinct old → Distinct new
 
--- unescaped blocks, each once, that are reached from the first along references
-pub record Walked (m : Blocks) (first : Option BlockId) (ids : List BlockId) : Type 0 where
+-- the block is the first or the second of these, where they are there
+abbrev pub IsFirst : Option BlockId → Option BlockId → BlockId → Type 0
+IsFirst first second f = (first ≡ Some f) ⊎ (second ≡ Some f)
+
+-- unescaped blocks, each once, that are reached along references from the first ones
+pub record Walked (m : Blocks) (First : BlockId → Type 0) (ids : List BlockId) : Type 0 where
   pub own : (q : BlockId) → among ids q ≡ true → IsOwn m q
-  pub led : (q : BlockId) → among ids q ≡ true → (f : BlockId) × (first ≡ Some f) × Leads (Refers m) f q
-  pub begun : (f : BlockId) → first ≡ Some f → IsOwn m f → among ids f ≡ true
+  pub led : (q : BlockId) → among ids q ≡ true → (f : BlockId) × First f × Leads (Refers m) f q
+  pub begun : (f : BlockId) → First f → IsOwn m f → among ids f ≡ true
   pub distinct : Distinct ids
 
 -- and these are all
-pub record IsPlan (m : Blocks) (first : Option BlockId) (ids : List BlockId) : Type 0 where
-  pub walked : Walked m first ids
+pub record IsPlan (m : Blocks) (First : BlockId → Type 0) (ids : List BlockId) : Type 0 where
+  pub walked : Walked m First ids
   pub closed : (a b : BlockId) → among ids a ≡ true → Refers m a b → IsOwn m b → among ids b ≡ true
 
--- the quanta of the unescaped ones of these blocks
+-- the lengths of the blocks, in their order
+abbrev pub lengths_of : Blocks → List BlockId → List ℕ
+lengths_of m ids = map (length_at m) ids
+
+-- the quanta of the blocks
 abbrev pub sum_of : Blocks → List BlockId → ℕ
 sum_of m [] = 0
-sum_of m (id ∷ ids) = unwrap_or (unescaped_quanta m id) 0 + sum_of m ids
+sum_of m (id ∷ ids) = quanta_at m id + sum_of m ids
 
--- the blocks may be marked one after another
-pub record CanMark (p : Plain) (ids : List BlockId) : Type 0 where
+-- the blocks may be moved to the heap one after another, which has room for them
+pub record CanMove (p : Plain) (ids : List BlockId) : Type 0 where
   pub distinct : Distinct ids
   pub own : (q : BlockId) → among ids q ≡ true → IsOwn p.blocks q
-  pub fits : p.used + sum_of p.blocks ids ≤ p.options.heap_quanta
+  pub room : p.heap.room ≡ lengths_of p.blocks ids
+  pub fits : used_by p.heap.blocks + sum_of p.blocks ids ≤ p.heap.options.heap_quanta
   pub counted : sum_of p.blocks ids ≤ p.own
+  pub whole : (q : BlockId) (b : Own) → tree.get id_cmp p.blocks q ≡ Some b → Whole b.layout b.words.items
+  pub absent : (q : BlockId) → IsOwn p.blocks q → get p.heap.blocks q ≡ None
 
--- a block that has escaped
-abbrev pub marked : Held → Held
-marked h = record h { escaped = true }
-
--- one block was marked
-pub record Marks (p n : Plain) (id : BlockId) : Type 0 where
+-- one block was moved to the heap
+pub record Moves (p n : Plain) (id : BlockId) (b : Own) : Type 0 where
   pub options : n.options ≡ p.options
   pub thread : n.thread ≡ p.thread
   pub registers : n.registers ≡ p.registers
-  pub roots : n.roots ≡ p.roots
   pub serials : n.serials ≡ p.serials
-  pub blocks : (q : BlockId) → tree.get id_cmp n.blocks q ≡ (if is_at (id_cmp id) q then option_map marked (tree.get id_cmp p.blocks q) else tree.get id_cmp p.blocks q)
-  pub used : n.used ≡ p.used + unwrap_or (unescaped_quanta p.blocks id) 0
-  pub own : n.own + unwrap_or (unescaped_quanta p.blocks id) 0 ≡ p.own
-  pub escaped : n.escaped ≡ p.escaped + 1
+  pub was : tree.get id_cmp p.blocks id ≡ Some b
+  pub blocks : (q : BlockId) → tree.get id_cmp n.blocks q ≡ (if is_at (id_cmp id) q then None else tree.get id_cmp p.blocks q)
+  pub own : n.own + quanta (len_of b.layout) ≡ p.own
+  pub heap : n.heap ≡ admitted p.heap id b.layout b.words.items
+  pub used : used_by n.heap.blocks ≡ used_by p.heap.blocks + quanta (len_of b.layout)
+  pub stands : (z : State) → Stands p.heap z → IsUnescaped z id b.layout b.words.items → Stands n.heap (with_escaped z (same_id id))
 
--- what the block leads to has escaped, or doesn't fit
-abbrev pub Escapes : Plain → Plain → Option BlockId → Bool → Type 0
-Escapes p n first fit = (z : State) → StandsFor p z → (need : BlockId → Bool) × Tells need (EscOf z first) × (is_overfull z (quanta_needed z need) ≡ not fit) × StandsFor n (if fit then with_escaped z need else z)
-
--- the same where the block into which it is stored has escaped; nothing escapes where it hasn't
-abbrev pub Publishes : Plain → Plain → BlockId → Option BlockId → Bool → Type 0
-Publishes p n into value fit = (z : State) → StandsFor p z → IsThere z into → (need : BlockId → Bool) × Tells need (λ c. IsTrue (is_escaped z into) × EscOf z value c) × (is_overfull z (quanta_needed z need) ≡ not fit)
-    × StandsFor n (if fit then with_escaped z need else z)
+-- what the blocks lead to has escaped, or doesn't fit
+abbrev pub Escapes : Plain → Plain → Option BlockId → Option BlockId → Bool → Type 0
+Escapes p n first second fit = (z : State) → StandsFor p z → (need : BlockId → Bool) × Tells need (λ c. EscOf z first c ⊎ EscOf z second c) × (is_overfull z (quanta_needed z need) ≡ not fit) × StandsFor n (if fit then with_escaped z need else z)

@@ -1,6 +1,7 @@
 pub mod Registers
 pub mod Soundness
 pub mod StandsFor
+pub mod Births
 pub mod Text
 pub mod Words
 pub mod Escapes

@@ -1,29 +1,29 @@
 -- What holds of a zone in which one thread has done all
-use Rattle.std.specs.Prelude.{◌≡◌, ℕ, ◌<◌, List, Some, IsSome, IsTrue, length, slice_get}
+use Rattle.std.specs.Prelude.{◌≡◌, ◌≤◌, ℕ, Some, None, IsSome, IsTrue}
 use Rattle.std.specs.FinMap.{get}
 use Rattle.az_base.specs.declared.block_id.BlockId.{BlockId}
-use Rattle.az_base.specs.declared.word.Class.TheVariants as class
-use Rattle.az_base.specs.declared.word.Word.{Word}
-use Rattle.az_base.specs.declared.word.Word.TheVariants as word
-use Rattle.block_layouts.specs.declared.layout.Layout.{Layout}
-use Rattle.block_layouts.specs.Layouts.{class_at, len_of}
+use Rattle.az_base.specs.declared.weak_loc.WeakLoc.{WeakLoc}
+use Rattle.az_base.specs.declared.weak_loc.WeakLoc.TheVariants as weak
 use Rattle.zone_model.specs.State.{State, Block, is_escaped}
+use Rattle.zone_model.specs.Quanta.{used_quanta}
 use Rattle.zone_model.specs.Reach.{WordEdge}
-
--- as many words as the layout says, with a number in each Plain one
-pub record Fills (layout : Layout) (words : List Word) : Type 0 where
-  pub count : length words ≡ len_of layout
-  pub numbers : (i : ℕ) → class_at layout i ≡ Some class.Plain → (n : ℕ) × (slice_get words i ≡ Some (word.Number n))
+use Rattle.shared_heap.specs.Whole.{Whole}
 
 -- the zone has the block
 abbrev pub IsThere : State → BlockId → Type 0
 IsThere z id = IsSome (get z.blocks id)
 
--- all blocks are the thread's; what its registers and the words of blocks hold is there; what roots and the words of escaped blocks hold has escaped
+-- all blocks are the thread's, and those that haven't escaped fit their layouts; what its registers and the words of blocks hold is there; what others may see has escaped, leads to what has escaped, and fits into the zone
 pub record IsSound (t : ℕ) (z : State) : Type 0 where
   pub made : (id : BlockId) → IsThere z id → id.thread ≡ t
-  pub filled : (id : BlockId) (b : Block) → get z.blocks id ≡ Some b → Fills b.layout b.words
+  pub filled : (id : BlockId) (b : Block) → get z.blocks id ≡ Some b → b.since ≡ None → Whole b.layout b.words
   pub registers : (r : ℕ) (id : BlockId) → z.registers t r ≡ Some id → IsThere z id
   pub roots : (g : ℕ) (id : BlockId) → z.roots g ≡ Some id → IsTrue (is_escaped z id)
   pub words : (a b : BlockId) → WordEdge z.blocks a b → IsThere z b
   pub shut : (a b : BlockId) → WordEdge z.blocks a b → IsTrue (is_escaped z a) → IsTrue (is_escaped z b)
+  pub counts : (id : BlockId) → IsSome (get z.counts id) → IsTrue (is_escaped z id)
+  pub objects : (a : BlockId) (key : ℕ) (b : BlockId) → get z.assocs (a, key) ≡ Some b → IsTrue (is_escaped z a)
+  pub values : (a : BlockId) (key : ℕ) (b : BlockId) → get z.assocs (a, key) ≡ Some b → IsTrue (is_escaped z b)
+  pub shown : (l : WeakLoc) (b : BlockId) → get z.weak l ≡ Some b → IsTrue (is_escaped z b)
+  pub fits : used_quanta z ≤ z.options.heap_quanta
+  pub showing : (a : BlockId) (at : ℕ) (b : BlockId) → get z.weak (weak.Word a at) ≡ Some b → IsTrue (is_escaped z a)

@@ -1,54 +1,49 @@
 //! The beginning of a zone, and the end of its thread.
-ghost use Rattle.std.specs.Prelude.{◌≡◌, IfOk};
+ghost use Rattle.std.specs.Prelude.{◌≡◌, IfOk, map};
 ghost use Rattle.std.specs.BTreeMap as tree;
 ghost use Rattle.az_base.specs.Ids.{id_cmp};
 ghost use Rattle.az_base.specs.OptionRanges.{IsValid};
 ghost use Rattle.zone_model.specs.State.{State, opening};
 ghost use Rattle.zone_model.specs.Stats.{stats_of};
-ghost use Rattle.autozone.specs.StandsFor.{StandsFor, Leaves, own_among};
+ghost use Rattle.autozone.specs.StandsFor.{StandsFor, Leaves};
 
 use crate::plain::registers::Registers;
-use crate::plain::roots::Roots;
 use crate::plain::zone::Plain;
 use az_base::{NoMemory, Options, ThreadNo};
+use shared_heap::Heap;
 use std::alloc::Global;
 use std::collections::BTreeMap;
 use zone_model::{IdList, Reply, Stats};
 
 impl Plain {
     /// The zone of a thread that has done nothing.
-    pub fn new(alloc: Global, options: Options, thread: ThreadNo) -> Plain
+    pub fn new(alloc: Global, options: Options, thread: ThreadNo) -> Result<Plain, NoMemory>
         requires { IsValid options }
-        ensures state { StandsFor result (opening options) }
-        ensures thread { result.thread ≡ thread }
-        ensures options { result.options ≡ options }
+        ensures state { IfOk result (λ plain. StandsFor plain (opening options)) }
+        ensures thread { IfOk result (λ plain. plain.thread ≡ thread) }
     {
+        let heap = Heap::new(alloc, options)?;
         let registers = Registers::new();
-        let roots = Roots::new();
-        Plain {
+        Ok(Plain {
             options,
             thread,
-            blocks: BTreeMap::new(alloc),
             registers,
-            roots,
-            serials: 0,
-            used: 0,
+            blocks: BTreeMap::new(alloc),
             own: 0,
-            escaped: 0,
-        }
+            serials: 0,
+            heap,
+        })
     }
 }
 
-/// The unescaped blocks of the thread, ascending. O(blocks).
+/// The unescaped blocks of the thread, ascending. O(these blocks).
 fn own_list(alloc: Global, plain: &Plain) -> Result<IdList, NoMemory>
-    ensures own { IfOk result (λ gone. gone.list ≡ own_among plain.now.thread plain.now.blocks.entries) }
+    ensures own { IfOk result (λ gone. gone.list ≡ map (λ e. e.0) plain.now.blocks.entries) }
     ensures ordered { tree.IsOrdered id_cmp plain.now.blocks }
 {
     let mut gone = IdList::with_room(alloc, plain.blocks.len())?;
-    for (id, held) in &plain.blocks {
-        if id.thread == plain.thread && !held.escaped {
-            gone.push(*id);
-        }
+    for (id, _) in &plain.blocks {
+        gone.push(*id);
     }
     Ok(gone)
 }
@@ -57,16 +52,11 @@ fn own_list(alloc: Global, plain: &Plain) -> Result<IdList, NoMemory>
 pub fn stats(plain: &Plain) -> Stats
     ensures { (z : State) → StandsFor plain.now z → result ≡ stats_of z }
 {
-    Stats {
-        blocks: u64::from(plain.escaped),
-        quanta: u64::from(plain.used),
-        retained: 0,
-        weak: 0,
-        assocs: 0,
-    }
+    plain.heap.stats()
 }
 
-/// The call `leave` that ends the thread: what it replies, and the statistics of the zone afterwards. O(blocks).
+/// The call `leave` that ends the thread: what it replies, and the statistics of the zone afterwards. O(unescaped
+/// blocks).
 pub fn leave(alloc: Global, plain: &Plain) -> Result<(Reply, Stats), NoMemory>
     ensures { IfOk result (λ end. Leaves plain.now end.0 end.1) }
 {

@@ -1,27 +1,20 @@
-//! Blocks that escape together.
-ghost use Rattle.std.specs.Prelude.{◌≡◌, ◌≤◌, ◌<◌, ◌+◌, [], ◌∷◌, ◌++◌, Some, None, OnOk, OnErr, IfOk, length, slice_get, nat_le};
-ghost use Rattle.az_base.specs.declared.block_id.BlockId.{BlockId};
-ghost use Rattle.zone_model.specs.State.{State, referent as referent_of};
-ghost use Rattle.zone_model.specs.Escape.{with_escaped};
+//! Blocks that escape together: planned first, and then moved to the heap.
+ghost use Rattle.std.specs.Prelude.{◌≡◌, ◌≤◌, ◌<◌, ◌+◌, List, [], ◌∷◌, ◌++◌, Some, OnOk, OnErr, IfOk, length, slice_get, nat_le};
+ghost use Rattle.az_base.specs.declared.block_id.BlockId.{BlockId as ABlockId};
 ghost use Rattle.az_base.specs.Ids.{among};
-ghost use Rattle.autozone.specs.StandsFor.{IsReal, Kept, Shows, StandsFor};
-ghost use Rattle.autozone.specs.Escapes.{unescaped_quanta, words_at, IsSeen, Visits, Follows, IsPlan, sum_of, CanMark, Marks, Escapes, Publishes};
+ghost use Rattle.shared_heap.specs.Shared.{used_by};
+ghost use Rattle.zone_model.specs.State.{State};
+ghost use Rattle.zone_model.specs.Escape.{with_escaped};
+ghost use Rattle.autozone.specs.declared.plain.zone.Own.{Own as AnOwn};
+ghost use Rattle.autozone.specs.Soundness.{IsSound};
+ghost use Rattle.autozone.specs.StandsFor.{IsReal, Kept, Shows};
+ghost use Rattle.autozone.specs.Escapes.{words_at, length_at, quanta_at, IsSeen, Visits, Follows, IsFirst, IsPlan, lengths_of, sum_of, CanMove, Moves, Escapes};
 
 use crate::plain::words::referent;
-use crate::plain::zone::Plain;
+use crate::plain::zone::{Own, Plain};
 use az_base::{BlockId, NoMemory, Word};
 use std::alloc::Global;
-use std::collections::BTreeSet;
-
-/// The quanta of a block that hasn't escaped.
-fn unescaped(plain: &Plain, id: BlockId) -> Option<u32>
-    ensures { result ≡ unescaped_quanta plain.now.blocks id }
-{
-    match plain.blocks.get(&id) {
-        Some(held) if !held.escaped => Some(held.layout.quanta()),
-        _ => None,
-    }
-}
+use std::collections::{BTreeMap, BTreeSet};
 
 /// What a walk along the references has found, in its order.
 #[derive(Drop)]
@@ -57,17 +50,21 @@ impl Walk {
         Ok(())
     }
 
-    /// Finds a block, where it hasn't escaped and wasn't found before.
-    fn visit(&mut self, plain: &Plain, value: Option<BlockId>) -> Result<(), NoMemory>
+    /// Finds a block, where it is one of these and wasn't found before.
+    fn visit(
+        &mut self,
+        blocks: &BTreeMap<BlockId, Own>,
+        value: Option<BlockId>,
+    ) -> Result<(), NoMemory>
         requires { IsSeen self.old }
         ensures seen { OnOk result (IsSeen self.new) }
-        ensures visits { OnOk result (Visits plain.now.blocks self.old.found.items self.new.found.items value) }
+        ensures visits { OnOk result (Visits blocks.now self.old.found.items self.new.found.items value) }
     {
         let Some(id) = value else {
             return Ok(());
         };
         let id = &id;
-        if unescaped(plain, *id).is_none() {
+        if !blocks.contains_key(id) {
             return Ok(());
         }
         if self.seen.contains(id) {
@@ -77,53 +74,96 @@ impl Walk {
     }
 
     /// Finds the blocks to which these words refer.
-    fn follow(&mut self, plain: &Plain, words: &[Word]) -> Result<(), NoMemory>
+    fn follow(&mut self, blocks: &BTreeMap<BlockId, Own>, words: &[Word]) -> Result<(), NoMemory>
         requires { IsSeen self.old }
         ensures seen { OnOk result (IsSeen self.new) }
-        ensures follows { OnOk result (Follows plain.now.blocks self.old.found.items self.new.found.items words.now) }
+        ensures follows { OnOk result (Follows blocks.now self.old.found.items self.new.found.items words.now) }
     {
         for word in words {
-            self.visit(plain, referent(*word))?;
+            self.visit(blocks, referent(*word))?;
         }
         Ok(())
     }
 
     /// Finds the blocks to which the block at a place of the list refers.
-    fn follow_found(&mut self, plain: &Plain, at: usize) -> Result<(), NoMemory>
+    fn follow_found(&mut self, blocks: &BTreeMap<BlockId, Own>, at: usize) -> Result<(), NoMemory>
         requires seen { IsSeen self.old }
         requires within { at < length self.old.found.items }
         ensures seen { OnOk result (IsSeen self.new) }
-        ensures follows { OnOk result ((q : BlockId) → slice_get self.old.found.items at ≡ Some q → Follows plain.now.blocks self.old.found.items self.new.found.items (words_at plain.now.blocks q)) }
+        ensures follows { OnOk result ((q : ABlockId) → slice_get self.old.found.items at ≡ Some q → Follows blocks.now self.old.found.items self.new.found.items (words_at blocks.now q)) }
     {
         let id = self.found[at];
-        match plain.blocks.get(&id) {
-            Some(held) => self.follow(plain, &held.words),
-            None => self.follow(plain, &[]),
+        match blocks.get(&id) {
+            Some(block) => self.follow(blocks, &block.words),
+            None => self.follow(blocks, &[]),
         }
     }
 }
 
-/// What a block leads to, as far as it hasn't escaped. O(words of these blocks · log blocks).
-fn plan(alloc: Global, plain: &Plain, first: Option<BlockId>) -> Result<Vec<BlockId>, NoMemory>
-    ensures { IfOk result (λ ids. IsPlan plain.now.blocks first ids.items) }
+/// What two blocks lead to, as far as it hasn't escaped. O(words of these blocks · log blocks).
+fn plan(
+    alloc: Global,
+    blocks: &BTreeMap<BlockId, Own>,
+    first: Option<BlockId>,
+    second: Option<BlockId>,
+) -> Result<Vec<BlockId>, NoMemory>
+    ensures { IfOk result (λ ids. IsPlan blocks.now (IsFirst first second) ids.items) }
 {
     let mut walk = Walk::new(alloc);
-    walk.visit(plain, first)?;
+    walk.visit(blocks, first)?;
+    walk.visit(blocks, second)?;
     let mut at = 0;
     while at < walk.found.len() {
-        walk.follow_found(plain, at)?;
+        walk.follow_found(blocks, at)?;
         at += 1;
     }
     Ok(walk.found)
 }
 
-/// Whether the blocks fit beside those that have escaped.
-fn fits(plain: &Plain, ids: &[BlockId]) -> bool
-    ensures { result ≡ nat_le (plain.now.used + sum_of plain.now.blocks ids.now) plain.now.options.heap_quanta }
+/// The length of a block in words.
+fn length_of(blocks: &BTreeMap<BlockId, Own>, id: BlockId) -> u32
+    ensures { result ≡ length_at blocks.now id }
 {
-    let mut room = plain.options.heap_quanta - plain.used;
+    match blocks.get(&id) {
+        Some(block) => block.layout.len(),
+        None => 0,
+    }
+}
+
+/// The lengths of the blocks.
+fn lengths(
+    alloc: Global,
+    blocks: &BTreeMap<BlockId, Own>,
+    ids: &[BlockId],
+) -> Result<Vec<u32>, NoMemory>
+    ensures { IfOk result (λ lengths. lengths.items ≡ lengths_of blocks.now ids.now) }
+{
+    let mut lengths = Vec::new(alloc);
     for id in ids {
-        let quanta = unescaped(plain, *id).unwrap_or(0);
+        let Ok(()) = lengths.push(length_of(blocks, *id)) else {
+            return Err(NoMemory);
+        };
+    }
+    Ok(lengths)
+}
+
+/// The quanta of a block.
+fn quanta_of(blocks: &BTreeMap<BlockId, Own>, id: BlockId) -> u32
+    ensures { result ≡ quanta_at blocks.now id }
+{
+    match blocks.get(&id) {
+        Some(block) => block.layout.quanta(),
+        None => 0,
+    }
+}
+
+/// Whether the blocks fit beside those of the heap.
+fn fits(plain: &Plain, ids: &[BlockId]) -> bool
+    ensures { result ≡ nat_le (used_by plain.now.heap.blocks + sum_of plain.now.blocks ids.now) plain.now.heap.options.heap_quanta }
+{
+    let mut room = plain.heap.options().heap_quanta - plain.heap.used();
+    for id in ids {
+        let quanta = quanta_of(&plain.blocks, *id);
         if quanta > room {
             return false;
         }
@@ -132,65 +172,51 @@ fn fits(plain: &Plain, ids: &[BlockId]) -> bool
     true
 }
 
-/// A block has escaped.
-fn mark(plain: &mut Plain, id: BlockId)
-    requires { CanMark plain.old (id ∷ []) }
-    ensures { Marks plain.old plain.new id }
+/// A block is moved to the heap.
+fn move_one(plain: &mut Plain, id: BlockId)
+    requires { (more : List ABlockId) × CanMove plain.old (id ∷ more) }
+    ensures { (b : AnOwn) × Moves plain.old plain.new id b }
 {
-    let Some(held) = plain.blocks.get_mut(&id) else {
+    let id = &id;
+    let Some(block) = plain.blocks.remove(id) else {
         unreachable!()
     };
-    let quanta = held.layout.quanta();
-    held.escaped = true;
-    plain.used += quanta;
-    plain.own -= quanta;
-    plain.escaped += 1;
+    plain.own -= block.layout.quanta();
+    plain.heap.admit(*id, block.layout, block.words);
 }
 
-/// The blocks have escaped.
-fn mark_all(plain: &mut Plain, ids: &[BlockId])
-    requires { CanMark plain.old ids.now }
-    ensures shows { (z : State) → StandsFor plain.old z → Shows plain.new (with_escaped z (among ids.now)) }
+/// The blocks are moved to the heap.
+fn move_all(plain: &mut Plain, ids: &[BlockId])
+    requires { CanMove plain.old ids.now }
+    ensures shows { (z : State) → Shows plain.old z → IsSound plain.old.thread z → Shows plain.new (with_escaped z (among ids.now)) }
     ensures thread { plain.new.thread ≡ plain.old.thread }
-    ensures options { plain.new.options ≡ plain.old.options }
+    ensures fits { used_by plain.new.heap.blocks ≤ plain.new.heap.options.heap_quanta }
 {
     for id in ids {
-        mark(plain, *id);
+        move_one(plain, *id);
     }
 }
 
-/// What the block leads to escapes, where it fits into the zone; whether it did. Where it doesn't, nothing changes.
+/// What the blocks lead to escapes, where it fits into the zone; whether it did. Where it doesn't, nothing changes.
 /// O(words of these blocks · log blocks).
-pub fn escape(alloc: Global, plain: &mut Plain, first: Option<BlockId>) -> Result<bool, NoMemory>
+pub fn escape(
+    alloc: Global,
+    plain: &mut Plain,
+    first: Option<BlockId>,
+    second: Option<BlockId>,
+) -> Result<bool, NoMemory>
     requires { IsReal plain.old }
-    ensures ok { IfOk result (λ fit. Escapes plain.old plain.new first fit) }
+    ensures ok { IfOk result (λ fit. Escapes plain.old plain.new first second fit) }
     ensures err { OnErr result (Kept plain.old plain.new) }
     ensures thread { plain.new.thread ≡ plain.old.thread }
-    ensures options { plain.new.options ≡ plain.old.options }
 {
-    let ids = plan(alloc, plain, first)?;
+    let ids = plan(alloc, &plain.blocks, first, second)?;
     if !fits(plain, &ids) {
         return Ok(false);
     }
-    mark_all(plain, &ids);
+    let lengths = lengths(alloc, &plain.blocks, &ids)?;
+    plain.heap.reserve_admit(alloc, &lengths)?;
+    move_all(plain, &ids);
+    plain.heap.unreserve();
     Ok(true)
-}
-
-/// What the value leads to escapes where it is stored into an escaped block, and fits; whether it did fit.
-pub fn publish(
-    alloc: Global,
-    plain: &mut Plain,
-    into: BlockId,
-    value: Option<BlockId>,
-) -> Result<bool, NoMemory>
-    requires { IsReal plain.old }
-    ensures ok { IfOk result (λ fit. Publishes plain.old plain.new into value fit) }
-    ensures err { OnErr result (Kept plain.old plain.new) }
-    ensures thread { plain.new.thread ≡ plain.old.thread }
-    ensures options { plain.new.options ≡ plain.old.options }
-{
-    match unescaped(plain, into) {
-        Some(_) => Ok(true),
-        None => escape(alloc, plain, value),
-    }
 }

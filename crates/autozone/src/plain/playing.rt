@@ -31,22 +31,21 @@ fn step(alloc: Global, plain: &mut Plain, call: &Call) -> Result<Reply, NoMemory
     ensures ok { IfOk result (λ reply. Stepped plain.old plain.new call.now reply) }
     ensures err { OnErr result (Kept plain.old plain.new) }
     ensures thread { plain.new.thread ≡ plain.old.thread }
-    ensures options { plain.new.options ≡ plain.old.options }
 {
     match call {
         Call::New {
             to,
             layout,
             actions,
-        } => make_block(alloc, plain, *to, layout, actions.as_slice()),
-        Call::Load { to, from, at } => Ok(load(plain, *to, *from, *at)),
+        } => make_block(alloc, plain, *to, layout, actions),
+        Call::Load { to, from, at } => load(plain, *to, *from, *at),
         Call::Store { into, at, from } => store(alloc, plain, *into, *at, *from),
         Call::Put { into, at, number } => Ok(put(plain, *into, *at, *number)),
         Call::Get { from, at } => Ok(get(plain, *from, *at)),
         Call::Copy { to, from } => Ok(copy(plain, *to, *from)),
         Call::DropReg { reg } => Ok(drop_reg(plain, *reg)),
         Call::SetRoot { root, from } => set_root(alloc, plain, *root, *from),
-        Call::GetRoot { to, root } => Ok(get_root(plain, *to, *root)),
+        Call::GetRoot { to, root } => get_root(plain, *to, *root),
         Call::Stats => Ok(Reply::Stats(stats(plain))),
         _ => unreachable!(),
     }
@@ -70,7 +69,6 @@ fn entry(alloc: Global, plain: &mut Plain, call: &Call) -> Result<Entry, NoMemor
     requires real { IsReal plain.old }
     ensures ok { IfOk result (λ e. (e.thread ≡ plain.old.thread) × (e.call ≡ call.now) × Stepped plain.old plain.new e.call e.reply) }
     ensures thread { plain.new.thread ≡ plain.old.thread }
-    ensures options { plain.new.options ≡ plain.old.options }
 {
     let copy = call.try_copy(alloc)?;
     let reply = step(alloc, plain, call)?;
@@ -92,7 +90,7 @@ fn play_thread(
     requires built { AllBuilt lines.now }
     ensures { IfOk result (λ p. IsHistoryOfOne options thread (map (λ line. line.act) lines.now) p.entries.items p.stats) }
 {
-    let mut plain = Plain::new(alloc, options, thread);
+    let mut plain = Plain::new(alloc, options, thread)?;
     let mut entries = Vec::new(alloc);
     for line in lines {
         let entry = entry(alloc, &mut plain, call_of(line))?;

@@ -15,7 +15,7 @@ pub struct Registers {
 }
 
 impl Registers {
-    ghost use Rattle.autozone.specs.Registers.{Hold};
+    ghost use Rattle.autozone.specs.Registers.{Hold, received};
 
     /// All registers null.
     pub fn new() -> Registers
@@ -37,13 +37,21 @@ impl Registers {
     {
         self.held[reg.get() as usize] = id;
     }
+
+    /// A register gets what a reply gives, unless that is a misuse.
+    pub fn receive(&mut self, reg: Reg, reply: &Reply)
+        ensures { (f : ℕ → Option BlockId) → Hold self.old f → Hold self.new (received f reg reply.now) }
+    {
+        if let Reply::Block(id) = reply {
+            self.set(reg, *id);
+        }
+    }
 }
 
 /// The call `copy`: one register gets what another one holds. O(1).
 pub fn copy(plain: &mut Plain, to: Reg, from: Reg) -> Reply
     ensures step { Stepped plain.old plain.new (call.Copy to from) result }
     ensures thread { plain.new.thread ≡ plain.old.thread }
-    ensures options { plain.new.options ≡ plain.old.options }
 {
     let id = plain.registers.get(from);
     plain.registers.set(to, id);
@@ -54,7 +62,6 @@ pub fn copy(plain: &mut Plain, to: Reg, from: Reg) -> Reply
 pub fn drop_reg(plain: &mut Plain, reg: Reg) -> Reply
     ensures step { Stepped plain.old plain.new (call.DropReg reg) result }
     ensures thread { plain.new.thread ≡ plain.old.thread }
-    ensures options { plain.new.options ≡ plain.old.options }
 {
     plain.registers.set(reg, None);
     Reply::Done

@@ -14,10 +14,10 @@ use Rattle.autozone.proofs.plain.playing.play_thread.Goals as goal
 
 pub loop-line-init : goal.loop-line-init
 loop-line-init c = record {
-  legal = (opening c.args.options, rw c.new-entries.ensures.items refl, c.new-plain.ensures.state);
+  legal = (opening c.args.options, rw c.new-entries.ensures.items refl, c.in_ok-plain.ensures.state);
   answered = rw c.new-entries.ensures.items refl;
   own = rw c.new-entries.ensures.items (All-nil _);
-  thread = c.new-plain.ensures.thread;
+  thread = c.in_ok-plain.ensures.thread;
 }
 
 pub loop-line-preserved : goal.loop-line-preserved

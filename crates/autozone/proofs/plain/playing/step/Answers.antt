@@ -3,7 +3,7 @@ use Rattle.zone_model.proofs.Steps.{step_plain, unseen}
 use Rattle.autozone.proofs.plain.playing.step.Goals as goal
 
 pub returns-in-Load-clause-ok : goal.returns-in-Load-clause-ok
-returns-in-Load-clause-ok c = rw c.in-Load.is c.load.ensures.step
+returns-in-Load-clause-ok c = rw c.in-Load.is c.load.ensures.ok
 
 pub returns-in-Put-clause-ok : goal.returns-in-Put-clause-ok
 returns-in-Put-clause-ok c = rw c.in-Put.is c.put.ensures.step
@@ -18,10 +18,10 @@ pub returns-in-DropReg-clause-ok : goal.returns-in-DropReg-clause-ok
 returns-in-DropReg-clause-ok c = rw c.in-DropReg.is c.drop_reg.ensures.step
 
 pub returns-in-GetRoot-clause-ok : goal.returns-in-GetRoot-clause-ok
-returns-in-GetRoot-clause-ok c = rw c.in-GetRoot.is c.get_root.ensures.step
+returns-in-GetRoot-clause-ok c = rw c.in-GetRoot.is c.get_root.ensures.ok
 
 pub returns-in-Stats-clause-ok : goal.returns-in-Stats-clause-ok
-returns-in-Stats-clause-ok c = rw c.in-Stats.is (λ z s. (z, step_plain z _ z s.shows.running (λ id n. n) refl (z, (c.stats.ensures z s, refl), sym (unseen z s.shows.cycle)), s))
+returns-in-Stats-clause-ok c = rw c.in-Stats.is (λ z s. (z, step_plain z _ z s.shows.running (λ id n. n) refl (z, (c.stats.ensures z s, refl), sym (unseen z s.shows.heap.cycle)), s))
 
 pub returns-in-Store-clause-ok : goal.returns-in-Store-clause-ok
 returns-in-Store-clause-ok c = rw c.in-Store.is c.store.ensures.ok

@@ -1,16 +1,12 @@
-use Rattle.std.proofs.Common.{refl, sym, ap, ◌∙◌, Some}
-use Rattle.zone_model.specs.State.{with_register}
-use Rattle.zone_model.proofs.Steps.{step_plain, unseen}
-use Rattle.autozone.proofs.Changes.{registered, escaped_there}
+use Rattle.std.proofs.Common.{None, refl, sym, ap, ◌∙◌}
+use Rattle.autozone.proofs.Answered.{heard, read_room}
+use Rattle.autozone.proofs.Changes.{escaped_there}
 use Rattle.autozone.proofs.plain.roots.get_root.Goals as goal
 
-pub returns-clause-step : goal.returns-clause-step
-returns-clause-step c = λ z s.
+pub returns-clause-ok : goal.returns-clause-ok
+returns-clause-ok c = λ z s.
     let p = c.args.plain.now in
-    let held = c.get.ensures _ s.shows.roots in
-    let after = with_register z p.thread c.args.to c.get.result in (
-      after,
-      step_plain z _ after s.shows.running (λ id n. n) refl (after, (held, refl), sym (unseen after s.shows.cycle)),
-      registered p _ z c.args.to c.get.result s record { same = record { options = refl; thread = refl; serials = refl; used = refl; own = refl; escaped = refl }; blocks = refl; roots = refl; set = c.set.ensures }
-          (λ b is. escaped_there z b (s.sound.roots c.args.root.0 b (sym held ∙ is))),
-    )
+    heard p _ z _ None c.args.to _ c.in_ok-reply.reply s record { none = λ id n. n; never = λ n. n; right = λ m mid e. e } c.in_ok-reply.ensures.reply
+    (λ mid e. (e.1, λ id is. escaped_there z id (s.sound.roots c.args.root.0 id (sym e.0 ∙ is))))
+    record { thread = refl; options = refl; blocks = refl; own = refl; serials = refl } c.receive.ensures (ap (λ h. h.room) c.in_ok-reply.ensures.value ∙ read_room p.heap p.thread c.in_ok-reply.reply ∙ s.room)
+    (c.in_ok-reply.ensures.step z c.args.to record { stands = s.shows.heap; running = s.shows.running })

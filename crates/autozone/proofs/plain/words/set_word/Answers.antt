@@ -1,16 +1,19 @@
-use Rattle.std.proofs.Common.{refl, sym, ap, is_some, ◌∙◌, rules}
+use Rattle.std.proofs.Common.{refl, ap, sym, is_some, rules}
 use Rattle.std.specs.Vec.{with_item}
-use Rattle.autozone.specs.declared.plain.zone.Held.{Held}
+use Rattle.autozone.specs.declared.plain.zone.Own.{Own}
 use Rattle.autozone.proofs.Changes.{shown_set}
 use Rattle.autozone.proofs.plain.words.set_word.Goals as goal
 
 pub returns : goal.returns
 returns c =
-    let was = c.in-Some.held.now in
-    let now : Held = record { layout = was.layout; words = with_item was.words c.args.at c.args.word; actions = was.actions; escaped = was.escaped } in
+    let was = c.in-Some.block.now in
+    let now : Own = record { layout = was.layout; words = with_item was.words c.args.at c.args.word } in
     record {
-      same = record { options = refl; thread = refl; serials = refl; used = refl; own = refl; escaped = refl };
+      thread = refl;
+      options = refl;
       registers = refl;
-      roots = refl;
+      own = refl;
+      serials = refl;
+      heap = refl;
       blocks = shown_set c.args.plain.now (c.get_mut.follows.lender now) c.args.id c.args.at c.args.word was now (search rules) refl ((c.get_mut.follows.holds now).3 (ap is_some (sym c.in-Some.ensures.value))).0;
     }

@@ -1,4 +1,4 @@
-use Rattle.std.proofs.Common.{sym, ap, ◌∙◌, length, refl, subst}
+use Rattle.std.proofs.Common.{length, refl, subst}
 use Rattle.std.proofs.lemmas.Option.{slice_get_read}
 use Rattle.autozone.specs.Escapes.{Visits}
 use Rattle.autozone.proofs.Walking.{followed_more, followed_all}
@@ -10,8 +10,8 @@ loop-word-preserved c =
     let i = c.loop-word.word-index in
     record {
       seen = c.in_ok-visit.ensures.seen;
-      followed = followed_more c.args.plain.now.blocks _ _ _ words i c.word-item.result c.loop-word.invariant.followed (slice_get_read words (length words) i c.word-item.result refl c.loop-word-test.true c.word-item.is)
-          (subst (Visits c.args.plain.now.blocks _ _) c.referent.ensures c.in_ok-visit.ensures.visits);
+      followed = followed_more c.args.blocks.now _ _ _ words i c.word-item.result c.loop-word.invariant.followed (slice_get_read words (length words) i c.word-item.result refl c.loop-word-test.true c.word-item.is)
+          (subst (Visits c.args.blocks.now _ _) c.referent.ensures c.in_ok-visit.ensures.visits);
     }
 
 pub returns-clause-follows : goal.returns-clause-follows

@@ -5,5 +5,5 @@ use Rattle.autozone.proofs.plain.escapes.Walk.follow.Given as goal
 abbrev pub invariant-loop-word : goal.invariant-loop-word
 invariant-loop-word l = record {
   seen : IsSeen l.self;
-  followed : Followed l.plain.blocks l.fn.self.found.items l.self.found.items l.words l.word-index;
+  followed : Followed l.blocks l.fn.self.found.items l.self.found.items l.words l.word-index;
 }

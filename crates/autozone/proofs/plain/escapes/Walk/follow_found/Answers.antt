@@ -1,4 +1,4 @@
-use Rattle.std.proofs.Common.{sym, ap, ◌∙◌, length, refl, rules}
+use Rattle.std.proofs.Common.{length, refl, rules}
 use Rattle.std.proofs.lemmas.Option.{slice_get_read}
 use Rattle.std.proofs.lemmas.Result.{on_ok_weaker}
 use Rattle.autozone.proofs.Walking.{follows_there, follows_missing}
@@ -9,7 +9,7 @@ returns-in-Some-clause-follows c =
     let ids = c.args.self.now.found.items in
     let at = c.args.at in
     let is = slice_get_read ids (length ids) at c.index.result.now refl c.requires.within c.index.ensures in
-    on_ok_weaker c.follow.result (λ f q asked. follows_there _ ids _ at c.index.result.now q c.in-Some.held.now c.deref.result.now is (search rules) c.deref.ensures.value asked f) c.follow.ensures.follows
+    on_ok_weaker c.follow.result (λ f q asked. follows_there _ ids _ at c.index.result.now q c.in-Some.block.now c.deref.result.now is (search rules) c.deref.ensures.value asked f) c.follow.ensures.follows
 
 pub returns-in-None-clause-follows : goal.returns-in-None-clause-follows
 returns-in-None-clause-follows c =
