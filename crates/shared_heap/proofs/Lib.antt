@@ -10,3 +10,4 @@ pub mod Results
 pub mod Wholes
 pub mod Rooms
 pub mod Births
+pub mod Retained

@@ -1,5 +1,7 @@
 -- What the fields of a heap keep
-use Rattle.std.specs.Prelude.{◌≡◌, ◌≤◌, ◌+◌, length}
+use Rattle.std.specs.Prelude.{◌≡◌, ◌≤◌, ◌+◌, length, unwrap_or}
+use Rattle.std.specs.FinMap.{get}
+use Rattle.az_base.specs.declared.block_id.BlockId.{BlockId}
 use Rattle.shared_heap.specs.Shared.{used_by, number_of}
 use Rattle.shared_heap.specs.declared.heap.Heap.TheInside.{Inside}
 
@@ -12,3 +14,5 @@ pub record IsHeap (h : Inside) : Type 0 where
   pub roots : length h.roots.items ≡ 256
   pub room : length h.room.items ≤ h.taken + h.blocks.spare
   pub taken : h.taken ≤ length h.room.items
+  -- no count is above the option
+  pub counts : (q : BlockId) → unwrap_or (get h.counts.counts q) 0 ≤ h.options.counts

@@ -9,3 +9,4 @@ pub mod Inside
 pub mod Words
 pub mod Stands
 pub mod Steps
+pub mod Retained

@@ -12,6 +12,7 @@ ghost use Rattle.shared_heap.specs.Steps.{Runs, Stepped};
 
 mod admission;
 mod births;
+mod counts;
 mod ready;
 mod roots;
 mod words;

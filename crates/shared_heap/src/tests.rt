@@ -274,3 +274,95 @@ fn room_is_made_ready(rt: HostRuntime) -> Result<(), Fail> {
     assert_eq!(rt; heap.stats().retained, 0);
     Ok(())
 }
+
+fn retain(heap: &mut Heap, t: ThreadNo, id: &Option<BlockId>) -> Option<Reply> {
+    if !is_known(heap, id) {
+        return None;
+    }
+    heap.retain(t, *id).ok()
+}
+
+fn release(heap: &mut Heap, t: ThreadNo, id: &Option<BlockId>) -> Option<Reply> {
+    if !is_known(heap, id) {
+        return None;
+    }
+    Some(heap.release(t, *id))
+}
+
+fn count(heap: &Heap, t: ThreadNo, id: &Option<BlockId>) -> Option<Reply> {
+    if !is_known(heap, id) {
+        return None;
+    }
+    Some(heap.count(t, *id))
+}
+
+#[test]
+fn counts_rise_to_the_option_and_fall(rt: HostRuntime) -> Result<(), Fail> {
+    let t = ThreadNo::new(1).expect(&rt, "a thread");
+    let mut options = Options::usual();
+    options.counts = 2;
+    let mut heap = Heap::new(rt.alloc(), options).expect(&rt, "memory");
+    let id = BlockId {
+        thread: t,
+        serial: 0,
+    };
+    admit_two(rt.alloc(), &mut heap, &id).expect(&rt, "room");
+    let id = &Some(id);
+    for (new, wrong) in [
+        (Some(1), None),
+        (Some(2), None),
+        (None, Some(Misuse::CountFull)),
+    ] {
+        let reply = retain(&mut heap, t, id).expect(&rt, "memory");
+        assert_eq!(rt; number(&reply), new);
+        assert_eq!(rt; misuse(&reply), wrong);
+    }
+    assert_eq!(rt; heap.stats().retained, 1);
+    for (new, wrong) in [
+        (Some(1), None),
+        (Some(0), None),
+        (None, Some(Misuse::OverRelease)),
+    ] {
+        let reply = release(&mut heap, t, id).expect(&rt, "a reply");
+        assert_eq!(rt; number(&reply), new);
+        assert_eq!(rt; misuse(&reply), wrong);
+        let reply = count(&heap, t, id).expect(&rt, "a reply");
+        assert_eq!(rt; number(&reply), new.or(Some(0)));
+    }
+    assert_eq!(rt; heap.stats().retained, 0);
+    Ok(())
+}
+
+#[test]
+fn null_has_no_count(rt: HostRuntime) -> Result<(), Fail> {
+    let t = ThreadNo::new(1).expect(&rt, "a thread");
+    let mut heap = Heap::new(rt.alloc(), Options::usual()).expect(&rt, "memory");
+    let retained = retain(&mut heap, t, &None).expect(&rt, "memory");
+    let released = release(&mut heap, t, &None).expect(&rt, "a reply");
+    let counted = count(&heap, t, &None).expect(&rt, "a reply");
+    for reply in [&retained, &released, &counted] {
+        assert_eq!(rt; misuse(reply), Some(Misuse::NullBlock));
+    }
+    Ok(())
+}
+
+#[test]
+fn blocks_with_a_count_are_taken(rt: HostRuntime) -> Result<(), Fail> {
+    let t = ThreadNo::new(1).expect(&rt, "a thread");
+    let (mut heap, id) = heap_of_one(rt.alloc(), t, "S").expect(&rt, "a heap");
+    let id = &id;
+    let first = id.expect(&rt, "a block");
+    let early = heap.take_held(t, first).expect(&rt, "memory");
+    assert_eq!(rt; misuse(&early), Some(Misuse::NotHeld));
+    heap.ready(t, None, *id).expect(&rt, "memory");
+    retain(&mut heap, t, id).expect(&rt, "memory");
+    let taken = heap.take_held(t, first).expect(&rt, "memory");
+    assert_eq!(rt; block(&taken), *id);
+    let other = BlockId {
+        thread: t,
+        serial: 1,
+    };
+    let unknown = heap.take_held(t, other).expect(&rt, "memory");
+    assert_eq!(rt; misuse(&unknown), Some(Misuse::NotHeld));
+    Ok(())
+}

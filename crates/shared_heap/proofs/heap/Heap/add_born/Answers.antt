@@ -25,4 +25,5 @@ invariant_of-self-2 c =
       roots = i.roots;
       room = omega arith;
       taken = i.taken;
+      counts = i.counts;
     }

@@ -29,6 +29,7 @@ invariant_of-self c =
       roots = i.roots;
       room = omega (arith, i.room, c.in-Ok.ensures.spare);
       taken = omega arith;
+      counts = i.counts;
     }
 
 pub returns-clause-value : goal.returns-clause-value

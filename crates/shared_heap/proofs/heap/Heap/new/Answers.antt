@@ -6,6 +6,7 @@ use Rattle.block_layouts.specs.Layouts.{quanta, len_of}
 use Rattle.zone_model.specs.Maps.{total-empty}
 use Rattle.shared_heap.specs.Stored.{Kept}
 use Rattle.shared_heap.specs.Shared.{used_by, number_of}
+use Rattle.shared_heap.proofs.Retained.{below_empty}
 use Rattle.shared_heap.proofs.Standing.{opening_stands}
 use Rattle.shared_heap.proofs.heap.Heap.new.Goals as goal
 
@@ -18,6 +19,7 @@ invariant_of-result c = record {
   roots = ap length c.in-Ok.ensures.items ∙ length-replicate 256 (let o : Option BlockId = None in o);
   room = rw c.new-5.ensures.items (omega arith);
   taken = omega arith;
+  counts = below_empty c.new-2.result.counts c.args.options.counts c.new-2.ensures.counts;
 }
 
 pub returns-clause-value : goal.returns-clause-value

@@ -20,4 +20,5 @@ invariant_of-self c =
       roots = i.roots;
       room = omega (arith, i.room, c.set_word.ensures.spare);
       taken = i.taken;
+      counts = i.counts;
     }

@@ -1,0 +1,15 @@
+use Rattle.std.proofs.Common.{refl}
+use Rattle.shared_heap.proofs.Retained.{below_lowered}
+use Rattle.shared_heap.proofs.heap.Heap.lower_count.Goals as goal
+
+pub invariant_of-self : goal.invariant_of-self
+invariant_of-self c = let i = c.self.invariant in record {
+  used = i.used;
+  fits = i.fits;
+  number = i.number;
+  few = i.few;
+  roots = i.roots;
+  room = i.room;
+  taken = i.taken;
+  counts = below_lowered c.lower.result c.self.inside.counts c.lower.new.self c.in-Some.id c.self.inside.options.counts c.lower.ensures.answer c.lower.ensures.counts c.lower.ensures.err i.counts;
+}
