@@ -11,3 +11,4 @@ pub mod Wholes
 pub mod Rooms
 pub mod Births
 pub mod Retained
+pub mod Assocs

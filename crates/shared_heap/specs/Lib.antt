@@ -10,3 +10,4 @@ pub mod Words
 pub mod Stands
 pub mod Steps
 pub mod Retained
+pub mod Assocs

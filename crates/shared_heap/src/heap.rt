@@ -11,6 +11,7 @@ ghost use Rattle.shared_heap.specs.Stands.{Stands};
 ghost use Rattle.shared_heap.specs.Steps.{Runs, Stepped};
 
 mod admission;
+mod assocs;
 mod births;
 mod counts;
 mod ready;

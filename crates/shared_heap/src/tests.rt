@@ -2,7 +2,7 @@ ghost use Rattle.std.specs.Prelude.{◌≡◌, [], None, Some, IfSome, IsSome, I
 ghost use Rattle.std.specs.FinMap.{get};
 
 use super::*;
-use az_base::{Action, BlockId, Class, Misuse, Options, RootNo, ThreadNo, Word};
+use az_base::{Action, BlockId, Class, Key, Misuse, Options, RootNo, ThreadNo, Word};
 use block_layouts::Layout;
 use std::alloc::Global;
 use std::test::*;
@@ -364,5 +364,65 @@ fn blocks_with_a_count_are_taken(rt: HostRuntime) -> Result<(), Fail> {
     };
     let unknown = heap.take_held(t, other).expect(&rt, "memory");
     assert_eq!(rt; misuse(&unknown), Some(Misuse::NotHeld));
+    Ok(())
+}
+
+fn set_assoc(
+    heap: &mut Heap,
+    t: ThreadNo,
+    object: &Option<BlockId>,
+    key: Key,
+    value: &Option<BlockId>,
+) -> Option<Reply> {
+    if !is_known(heap, object) || !is_known(heap, value) {
+        return None;
+    }
+    heap.set_assoc(t, *object, key, *value).ok()
+}
+
+/// The heap's second block.
+fn second_block(alloc: Global, heap: &mut Heap, t: ThreadNo) -> Option<Option<BlockId>> {
+    let id = Some(BlockId {
+        thread: t,
+        serial: 1,
+    });
+    let layout = Layout::parse(alloc, "P").ok()?;
+    let reply = born(alloc, heap, t, &id, &layout, &ActionList::new())?;
+    Some(block(&reply))
+}
+
+#[test]
+fn objects_have_values(rt: HostRuntime) -> Result<(), Fail> {
+    let t = ThreadNo::new(1).expect(&rt, "a thread");
+    let (mut heap, id) = heap_of_one(rt.alloc(), t, "S").expect(&rt, "a heap");
+    let other = second_block(rt.alloc(), &mut heap, t).expect(&rt, "a block");
+    let id = &id;
+    let other = &other;
+    let key = Key(2);
+    for (value, before, assocs) in [
+        (*other, None, 1),
+        (*id, *other, 1),
+        (None, *id, 0),
+        (None, None, 0),
+    ] {
+        let set = set_assoc(&mut heap, t, id, key, &value).expect(&rt, "memory");
+        assert_eq!(rt; block(&set), before);
+        let got = heap.get_assoc(t, *id, key).expect(&rt, "memory");
+        assert_eq!(rt; block(&got), value);
+        let none = heap.get_assoc(t, *id, Key(3)).expect(&rt, "memory");
+        assert_eq!(rt; block(&none), None);
+        assert_eq!(rt; heap.stats().assocs, assocs);
+    }
+    Ok(())
+}
+
+#[test]
+fn null_has_no_values(rt: HostRuntime) -> Result<(), Fail> {
+    let t = ThreadNo::new(1).expect(&rt, "a thread");
+    let (mut heap, id) = heap_of_one(rt.alloc(), t, "S").expect(&rt, "a heap");
+    let set = set_assoc(&mut heap, t, &None, Key(0), &id).expect(&rt, "memory");
+    assert_eq!(rt; misuse(&set), Some(Misuse::NullBlock));
+    let got = heap.get_assoc(t, None, Key(0)).expect(&rt, "memory");
+    assert_eq!(rt; misuse(&got), Some(Misuse::NullBlock));
     Ok(())
 }

@@ -1,0 +1,65 @@
+//! The associations.
+ghost use Rattle.std.specs.Prelude.{◌≡◌, ◌+◌, ℕ, IfOk, IfSome, IsOk, IsSome, OnErr, None, Some, ◌==◌, ◌&&◌, if◌then◌else◌};
+ghost use Rattle.std.specs.FinMap.{get};
+ghost use Rattle.az_base.specs.declared.block_id.BlockId.{BlockId};
+ghost use Rattle.zone_model.specs.declared.call.Call.TheVariants as call;
+ghost use Rattle.zone_model.specs.State.{State};
+ghost use Rattle.shared_heap.specs.Assocs.{assoc_reply, associated};
+ghost use Rattle.shared_heap.specs.Shared.{held};
+ghost use Rattle.shared_heap.specs.Stands.{Sound};
+ghost use Rattle.shared_heap.specs.Steps.{Runs, Stepped, after_read, names};
+
+use crate::heap::Heap;
+use az_base::{BlockId, Key, Misuse, NoMemory, ThreadNo};
+use zone_model::Reply;
+
+impl Heap {
+    /// The object's value under the key becomes this block, or goes where it is null: the reply is the value before, or
+    /// NullBlock. It goes to no register, so nobody holds it for that. The room that was ready for an association is
+    /// used up, even where this call is for another object. O(values of the object).
+    pub fn set_assoc(
+        &mut self,
+        t: ThreadNo,
+        object: Option<BlockId>,
+        key: Key,
+        value: Option<BlockId>,
+    ) -> Result<Reply, NoMemory>
+        requires given { IfSome object (λ b. IsSome (get self.old.blocks b)) }
+        requires escaped { IfSome value (λ b. IsSome (get self.old.blocks b)) }
+        ensures sure { IfSome object (λ b. self.old.ready.object ≡ Some b) → IsOk result }
+        ensures taken { value ≡ None → IsOk result }
+        ensures reply { IfOk result (λ r. r ≡ assoc_reply self.old object key.0) }
+        ensures value { IfOk result (λ r. self.new ≡ associated self.old object key.0 value) }
+        ensures step { IfOk result (λ r. (z : State) (reg from : ℕ) → Runs self.old z t → Sound z → z.registers t reg ≡ object → z.registers t from ≡ value → Stepped self.new z t (call.SetAssoc reg key from) r) }
+        ensures err { OnErr result (self.new ≡ self.old) }
+    {
+        let Some(object) = object else {
+            return Ok(Reply::Misuse(Misuse::NullBlock));
+        };
+        let before = self.assocs.set(object, key, value)?;
+        Ok(Reply::Block(before))
+    }
+
+    /// Reads the object's value under the key into a register of the thread: the thread holds what it gets once more.
+    /// NoMemory too where it holds that 4,294,967,295 times. The object need not be a block of the heap. O(log values of
+    /// the object), and O(threads that hold the block).
+    pub fn get_assoc(
+        &mut self,
+        t: ThreadNo,
+        object: Option<BlockId>,
+        key: Key,
+    ) -> Result<Reply, NoMemory>
+        ensures reply { IfOk result (λ r. r ≡ assoc_reply self.old object key.0) }
+        ensures value { IfOk result (λ r. self.new ≡ after_read self.old t r) }
+        ensures held { IfOk result (λ r. (u : ℕ) (q : BlockId) → IsSome (get self.old.blocks q) → held self.new u q ≡ held self.old u q + (if (t == u) && names r q then 1 else 0)) }
+        ensures step { IfOk result (λ r. (z : State) (to reg : ℕ) → Runs self.old z t → z.registers t reg ≡ object → Stepped self.new z t (call.GetAssoc to reg key) r) }
+        ensures err { OnErr result (self.new ≡ self.old) }
+    {
+        let Some(object) = object else {
+            return Ok(Reply::Misuse(Misuse::NullBlock));
+        };
+        let value = self.assocs.get(object, key);
+        self.hold_more(t, &value)?;
+        Ok(Reply::Block(value))
+    }
+}
