@@ -12,3 +12,4 @@ pub mod Rooms
 pub mod Births
 pub mod Retained
 pub mod Assocs
+pub mod Weak

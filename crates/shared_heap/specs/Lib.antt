@@ -11,3 +11,4 @@ pub mod Stands
 pub mod Steps
 pub mod Retained
 pub mod Assocs
+pub mod Weak

@@ -16,6 +16,7 @@ mod births;
 mod counts;
 mod ready;
 mod roots;
+mod weak;
 mod words;
 
 use crate::blocks::Blocks;

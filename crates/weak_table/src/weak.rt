@@ -1,5 +1,5 @@
 //! The weak table.
-ghost use Rattle.std.specs.Prelude.{◌≡◌, None, Some, IfSome, OnOk, OnErr};
+ghost use Rattle.std.specs.Prelude.{◌≡◌, None, Some, IfSome, IsOk, OnOk, OnErr};
 ghost use Rattle.std.specs.FinMap as map;
 ghost use Rattle.std.specs.FinMap.{retain_keys};
 
@@ -61,18 +61,24 @@ impl Weak {
         self.shown.group_of(loc)
     }
 
-    /// Takes room for one more location that shows the block. O(1), and O(locations) where a table or a list grows.
+    /// Takes room for one more location that shows the block, if there is none. O(1), and O(locations) where a table or a
+    /// list grows.
     pub fn reserve_one(&mut self, value: BlockId) -> Result<(), NoMemory>
         ensures ok { OnOk result (self.new ≡ record self.old { ready = Some value }) }
         ensures err { OnErr result (self.new ≡ self.old) }
+        ensures sure { self.old.ready ≡ Some value → IsOk result }
     {
+        let value = &value;
+        if self.ready == Some(*value) {
+            return Ok(());
+        }
         let Ok(()) = self.shown.reserve_one() else {
             return Err(NoMemory);
         };
         let Ok(()) = self.words.reserve_one() else {
             return Err(NoMemory);
         };
-        self.ready = Some(value);
+        self.ready = Some(*value);
         Ok(())
     }
 

@@ -1,5 +1,5 @@
 //! Room for the calls that an escape makes way for.
-ghost use Rattle.std.specs.Prelude.{◌≡◌, OnOk, OnErr};
+ghost use Rattle.std.specs.Prelude.{◌≡◌, Some, IfSome, IsOk, OnOk, OnErr};
 ghost use Rattle.std.specs.Option.{option_or};
 ghost use Rattle.zone_model.specs.State.{State};
 ghost use Rattle.shared_heap.specs.Shared.{readied};
@@ -40,9 +40,10 @@ impl Heap {
     }
 
     /// Room for one more weak location that shows the block, if there is one.
-    fn ready_value(&mut self, value: Option<BlockId>) -> Result<(), NoMemory>
+    pub(crate) fn ready_value(&mut self, value: Option<BlockId>) -> Result<(), NoMemory>
         ensures ok { OnOk result (self.new ≡ record self.old { ready = record self.old.ready { value = option_or value self.old.ready.value } }) }
         ensures err { OnErr result (self.new ≡ self.old) }
+        ensures sure { IfSome value (λ b. self.old.ready.value ≡ Some b) → IsOk result }
     {
         match value {
             Some(value) => self.weak.reserve_one(value),
