@@ -1,5 +1,5 @@
 -- The steps of the calls on weak locations
-use Rattle.std.proofs.Common.{◌≡◌, ℕ, ◌≤◌, Bool, true, false, [], ◌∷◌, Option, Some, None, IsSome, IfSome, refl, sym, ap, subst, ◌∙◌, inl, inr, ◌⊎◌}
+use Rattle.std.proofs.Common.{◌≡◌, ℕ, ◌≤◌, Bool, true, false, [], ◌∷◌, Option, Some, None, IsSome, IfSome, refl, sym, ap, subst, ◌∙◌, inl, inr}
 use Rattle.std.specs.Option.{option_map, option_map_or}
 use Rattle.std.specs.FinMap.{get}
 use Rattle.az_base.specs.declared.block_id.BlockId.{BlockId}
@@ -94,8 +94,8 @@ module _ (h : Shared) (z : State) (t : ℕ) (runs : Runs h z t) where
             let w = word_named z t a i l at in
             let c = call.SetWeak (loc.Word a i) from in
             earlier (null_block z t c) (no_word z t c) (wrong_class z t c) _ m
-                (three h z t c a i class.Weak (Some w.0) runs.stands (subst (IsPlaced h) w.2 placed) w.1 (record { holder = refl; word = refl })
-                ∙ sym (ap (loc_misuse h) w.2) ∙ wrong)
+            (three h z t c a i class.Weak (Some w.0) runs.stands (subst (IsPlaced h) w.2 placed) w.1 (record { holder = refl; word = refl })
+            ∙ sym (ap (loc_misuse h) w.2) ∙ wrong)
 
     pub assign_step : used_by h.blocks ≤ h.options.heap_quanta → loc_misuse h l ≡ None → Stepped (showing h l v) z t (call.SetWeak named from) (reply.Block v)
     assign_step fits right =

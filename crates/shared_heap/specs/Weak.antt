@@ -1,5 +1,5 @@
 -- What a heap's weak locations show
-use Rattle.std.specs.Prelude.{ℕ, Option, Some, None, IsSome}
+use Rattle.std.specs.Prelude.{Option, Some, None, IsSome}
 use Rattle.std.specs.FinMap.{get}
 use Rattle.az_base.specs.declared.block_id.BlockId.{BlockId}
 use Rattle.az_base.specs.declared.misuse.Misuse.{Misuse}

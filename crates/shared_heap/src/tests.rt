@@ -1,8 +1,11 @@
 ghost use Rattle.std.specs.Prelude.{◌≡◌, [], None, Some, IfSome, IsSome, IsTrue, ◌↔◌, ◌≤◌, ◌+◌, slice_get};
 ghost use Rattle.std.specs.FinMap.{get};
+ghost use Rattle.shared_heap.specs.Weak.{IsPlaced};
 
 use super::*;
-use az_base::{Action, BlockId, Class, Key, Misuse, Options, RootNo, ThreadNo, Word};
+use az_base::{
+    Action, BlockId, Class, Key, Misuse, Options, RootNo, ThreadNo, WeakLoc, WeakNo, Word,
+};
 use block_layouts::Layout;
 use std::alloc::Global;
 use std::test::*;
@@ -424,5 +427,71 @@ fn null_has_no_values(rt: HostRuntime) -> Result<(), Fail> {
     assert_eq!(rt; misuse(&set), Some(Misuse::NullBlock));
     let got = heap.get_assoc(t, None, Key(0)).expect(&rt, "memory");
     assert_eq!(rt; misuse(&got), Some(Misuse::NullBlock));
+    Ok(())
+}
+
+/// Whether a weak root, or at a place of a block of the heap.
+fn is_placed(heap: &Heap, loc: WeakLoc) -> bool
+    ensures { IsTrue result → IsPlaced heap.now loc }
+{
+    match loc {
+        WeakLoc::Root(_) => true,
+        WeakLoc::Word(id, _) => heap.has(id),
+    }
+}
+
+fn assign(heap: &mut Heap, t: ThreadNo, loc: &WeakLoc, value: &Option<BlockId>) -> Option<Reply> {
+    if !is_placed(heap, *loc) || !is_known(heap, value) {
+        return None;
+    }
+    heap.assign_weak(t, *loc, *value).ok()
+}
+
+fn shown(heap: &mut Heap, t: ThreadNo, loc: &WeakLoc) -> Option<Reply> {
+    if !is_placed(heap, *loc) {
+        return None;
+    }
+    heap.read_weak(t, *loc).ok()
+}
+
+#[test]
+fn weak_locations_show_blocks(rt: HostRuntime) -> Result<(), Fail> {
+    let t = ThreadNo::new(1).expect(&rt, "a thread");
+    let (mut heap, id) = heap_of_one(rt.alloc(), t, "SPW").expect(&rt, "a heap");
+    let known = id.expect(&rt, "a block");
+    let known = &known;
+    for loc in [WeakLoc::Root(WeakNo(255)), WeakLoc::Word(*known, 2)] {
+        let loc = &loc;
+        for value in [Some(*known), None, Some(*known)] {
+            let value = &value;
+            let assigned = assign(&mut heap, t, loc, value).expect(&rt, "memory");
+            assert_eq!(rt; block(&assigned), *value);
+            let read = shown(&mut heap, t, loc).expect(&rt, "memory");
+            assert_eq!(rt; block(&read), *value);
+        }
+    }
+    assert_eq!(rt; heap.stats().weak, 2);
+    Ok(())
+}
+
+#[test]
+fn misuses_of_weak_words(rt: HostRuntime) -> Result<(), Fail> {
+    let t = ThreadNo::new(1).expect(&rt, "a thread");
+    let (mut heap, id) = heap_of_one(rt.alloc(), t, "SPW").expect(&rt, "a heap");
+    let known = id.expect(&rt, "a block");
+    let (id, known) = (&id, &known);
+    for (at, wrong) in [
+        (0, Misuse::WrongClass),
+        (1, Misuse::WrongClass),
+        (3, Misuse::NoWord),
+    ] {
+        let loc = &WeakLoc::Word(*known, at);
+        let assigned = assign(&mut heap, t, loc, id).expect(&rt, "memory");
+        let read = shown(&mut heap, t, loc).expect(&rt, "memory");
+        for reply in [&assigned, &read] {
+            assert_eq!(rt; misuse(reply), Some(wrong));
+        }
+    }
+    assert_eq!(rt; heap.stats().weak, 0);
     Ok(())
 }

@@ -18,8 +18,9 @@ use az_base::{BlockId, Class, Misuse, NoMemory, ThreadNo, WeakLoc};
 use zone_model::Reply;
 
 impl Heap {
-    /// The location shows the block, or null; for a word NoWord, or WrongClass where it isn't a Weak one. The room that
-    /// was ready for a value is used up. O(1) expected, and O(locations) where a table grows.
+    /// The location shows the block, or null; for a word NoWord, or WrongClass where it isn't a Weak one. It takes no
+    /// memory for null, nor where room for the value is ready, and then that room is gone. O(1) expected, and
+    /// O(locations) where a table grows.
     pub fn assign_weak(
         &mut self,
         t: ThreadNo,
