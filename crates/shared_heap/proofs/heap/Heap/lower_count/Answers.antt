@@ -1,4 +1,3 @@
-use Rattle.std.proofs.Common.{refl}
 use Rattle.shared_heap.proofs.Retained.{below_lowered}
 use Rattle.shared_heap.proofs.heap.Heap.lower_count.Goals as goal
 

@@ -1,4 +1,3 @@
-use Rattle.std.proofs.Common.{refl}
 use Rattle.shared_heap.proofs.Retained.{below_raised}
 use Rattle.shared_heap.proofs.heap.Heap.raise_count.Goals as goal
 
