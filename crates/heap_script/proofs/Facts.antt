@@ -100,6 +100,12 @@ act_of_built names.Copy (to, (from, end)) is = tt
 act_of_built names.Drop (reg, end) is = tt
 act_of_built names.SetRoot (root, (from, end)) is = tt
 act_of_built names.GetRoot (to, (root, end)) is = tt
+act_of_built names.Retain (reg, end) is = tt
+act_of_built names.Release (reg, end) is = tt
+act_of_built names.Count (reg, end) is = tt
+act_of_built names.Take (to, (id, end)) is = tt
+act_of_built names.SetAssoc (object, (key, (value, end))) is = tt
+act_of_built names.GetAssoc (to, (object, (key, end))) is = tt
 act_of_built names.Stats end is = tt
 act_of_built name args is = absurd (cc)
 

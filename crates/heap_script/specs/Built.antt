@@ -17,6 +17,12 @@ is_built names.Copy = true
 is_built names.Drop = true
 is_built names.SetRoot = true
 is_built names.GetRoot = true
+is_built names.Retain = true
+is_built names.Release = true
+is_built names.Count = true
+is_built names.Take = true
+is_built names.SetAssoc = true
+is_built names.GetAssoc = true
 is_built names.Stats = true
 is_built _ = false
 

@@ -29,6 +29,12 @@ IsBuilt (act.Call (call.Copy to from)) = Unit {0}
 IsBuilt (act.Call (call.DropReg reg)) = Unit {0}
 IsBuilt (act.Call (call.SetRoot root from)) = Unit {0}
 IsBuilt (act.Call (call.GetRoot to root)) = Unit {0}
+IsBuilt (act.Call (call.Retain reg)) = Unit {0}
+IsBuilt (act.Call (call.Release reg)) = Unit {0}
+IsBuilt (act.Call (call.Count reg)) = Unit {0}
+IsBuilt (act.Call (call.Take to id)) = Unit {0}
+IsBuilt (act.Call (call.SetAssoc object key value)) = Unit {0}
+IsBuilt (act.Call (call.GetAssoc to object key)) = Unit {0}
 IsBuilt (act.Call call.Stats) = Unit {0}
 IsBuilt _ = ⊥
 

@@ -19,6 +19,12 @@ fn is_built(name: CallName) -> bool
             | CallName::Drop
             | CallName::SetRoot
             | CallName::GetRoot
+            | CallName::Retain
+            | CallName::Release
+            | CallName::Count
+            | CallName::Take
+            | CallName::SetAssoc
+            | CallName::GetAssoc
             | CallName::Stats
     )
 }

@@ -77,7 +77,10 @@ fn causes_stand_in_order(rt: HostRuntime) -> Result<(), Fail> {
         (b"1 # new r0 scanned 0".as_slice(), Cause::NoCall, 1),
         (b"1 collect young".as_slice(), Cause::NoCall, 1),
         (b"1 collect".as_slice(), Cause::NoCall, 1),
-        (b"1 retain r0".as_slice(), Cause::NoCall, 1),
+        (b"1 collect full".as_slice(), Cause::NoCall, 1),
+        (b"1 setweak w0 r0".as_slice(), Cause::NoCall, 1),
+        (b"1 readweak r0 w0".as_slice(), Cause::NoCall, 1),
+        (b"1 Retain r0".as_slice(), Cause::NoCall, 1),
         (b"1 begin young".as_slice(), Cause::NoCall, 1),
         (b"1 leave".as_slice(), Cause::NoCall, 1),
         (b"1 new".as_slice(), Cause::WrongArgument, 1),
@@ -214,6 +217,66 @@ fn arguments_are_refused(rt: HostRuntime) -> Result<(), Fail> {
         (b"stats\r".as_slice(), Some(Cause::NoCall)),
     ] {
         assert_eq!(rt; cause_of(&rt, line)?, cause);
+    }
+    Ok(())
+}
+
+#[test]
+fn counts_and_associations_are_read(rt: HostRuntime) -> Result<(), Fail> {
+    for bytes in [
+        b"1 retain r0".as_slice(),
+        b"1 release r15".as_slice(),
+        b"1 count r007".as_slice(),
+        b"1 take r0 1.0".as_slice(),
+        b"1 take r15 016.04294967295".as_slice(),
+        b"1 setassoc r0 k255 r1".as_slice(),
+        b"1 setassoc r0 k00 r0".as_slice(),
+        b"1 getassoc r0 r1 k0".as_slice(),
+        b"1 getassoc\tr2 r2 k5 ".as_slice(),
+    ] {
+        assert_eq!(rt; outcome(&rt, bytes)?, Ok(1));
+    }
+    Ok(())
+}
+
+#[test]
+fn counts_and_associations_are_refused(rt: HostRuntime) -> Result<(), Fail> {
+    let wrong = Cause::WrongArgument;
+    let too_many = Cause::TooManyArguments;
+    for (bytes, cause) in [
+        (b"1 retain".as_slice(), wrong),
+        (b"1 retain 0".as_slice(), wrong),
+        (b"1 retain r16".as_slice(), wrong),
+        (b"1 retain r0 r1".as_slice(), too_many),
+        (b"1 release".as_slice(), wrong),
+        (b"1 release R0".as_slice(), wrong),
+        (b"1 release r0 1".as_slice(), too_many),
+        (b"1 count".as_slice(), wrong),
+        (b"1 count 1.0".as_slice(), wrong),
+        (b"1 count r0 r0".as_slice(), too_many),
+        (b"1 take".as_slice(), wrong),
+        (b"1 take r0".as_slice(), wrong),
+        (b"1 take 1.0 r0".as_slice(), wrong),
+        (b"1 take r0 r1".as_slice(), wrong),
+        (b"1 take r0 17.0".as_slice(), wrong),
+        (b"1 take r0 1.4294967296".as_slice(), wrong),
+        (b"1 take r0 1.0 1.1".as_slice(), too_many),
+        (b"1 setassoc".as_slice(), wrong),
+        (b"1 setassoc r0".as_slice(), wrong),
+        (b"1 setassoc r0 k0".as_slice(), wrong),
+        (b"1 setassoc r0 r1 k0".as_slice(), wrong),
+        (b"1 setassoc r0 k256 r1".as_slice(), wrong),
+        (b"1 setassoc r0 g1 r1".as_slice(), wrong),
+        (b"1 setassoc r0 k0 1.0".as_slice(), wrong),
+        (b"1 setassoc r0 k0 r1 r2".as_slice(), too_many),
+        (b"1 getassoc".as_slice(), wrong),
+        (b"1 getassoc r0".as_slice(), wrong),
+        (b"1 getassoc r0 r1".as_slice(), wrong),
+        (b"1 getassoc r0 k1 r1".as_slice(), wrong),
+        (b"1 getassoc r0 r1 1".as_slice(), wrong),
+        (b"1 getassoc r0 r1 k1 k2".as_slice(), too_many),
+    ] {
+        assert_eq!(rt; outcome(&rt, bytes)?, Err((cause, 1)));
     }
     Ok(())
 }
