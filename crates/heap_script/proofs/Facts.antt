@@ -106,6 +106,8 @@ act_of_built names.Count (reg, end) is = tt
 act_of_built names.Take (to, (id, end)) is = tt
 act_of_built names.SetAssoc (object, (key, (value, end))) is = tt
 act_of_built names.GetAssoc (to, (object, (key, end))) is = tt
+act_of_built names.SetWeak (loc, (from, end)) is = tt
+act_of_built names.ReadWeak (to, (loc, end)) is = tt
 act_of_built names.Stats end is = tt
 act_of_built name args is = absurd (cc)
 

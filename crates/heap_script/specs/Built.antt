@@ -23,6 +23,8 @@ is_built names.Count = true
 is_built names.Take = true
 is_built names.SetAssoc = true
 is_built names.GetAssoc = true
+is_built names.SetWeak = true
+is_built names.ReadWeak = true
 is_built names.Stats = true
 is_built _ = false
 

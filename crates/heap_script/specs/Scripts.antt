@@ -35,6 +35,8 @@ IsBuilt (act.Call (call.Count reg)) = Unit {0}
 IsBuilt (act.Call (call.Take to id)) = Unit {0}
 IsBuilt (act.Call (call.SetAssoc object key value)) = Unit {0}
 IsBuilt (act.Call (call.GetAssoc to object key)) = Unit {0}
+IsBuilt (act.Call (call.SetWeak loc from)) = Unit {0}
+IsBuilt (act.Call (call.ReadWeak to loc)) = Unit {0}
 IsBuilt (act.Call call.Stats) = Unit {0}
 IsBuilt _ = ⊥
 

@@ -25,6 +25,8 @@ fn is_built(name: CallName) -> bool
             | CallName::Take
             | CallName::SetAssoc
             | CallName::GetAssoc
+            | CallName::SetWeak
+            | CallName::ReadWeak
             | CallName::Stats
     )
 }

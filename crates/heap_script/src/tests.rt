@@ -78,8 +78,8 @@ fn causes_stand_in_order(rt: HostRuntime) -> Result<(), Fail> {
         (b"1 collect young".as_slice(), Cause::NoCall, 1),
         (b"1 collect".as_slice(), Cause::NoCall, 1),
         (b"1 collect full".as_slice(), Cause::NoCall, 1),
-        (b"1 setweak w0 r0".as_slice(), Cause::NoCall, 1),
-        (b"1 readweak r0 w0".as_slice(), Cause::NoCall, 1),
+        (b"1 collect local".as_slice(), Cause::NoCall, 1),
+        (b"1 collect weak".as_slice(), Cause::NoCall, 1),
         (b"1 Retain r0".as_slice(), Cause::NoCall, 1),
         (b"1 begin young".as_slice(), Cause::NoCall, 1),
         (b"1 leave".as_slice(), Cause::NoCall, 1),
@@ -275,6 +275,50 @@ fn counts_and_associations_are_refused(rt: HostRuntime) -> Result<(), Fail> {
         (b"1 getassoc r0 k1 r1".as_slice(), wrong),
         (b"1 getassoc r0 r1 1".as_slice(), wrong),
         (b"1 getassoc r0 r1 k1 k2".as_slice(), too_many),
+    ] {
+        assert_eq!(rt; outcome(&rt, bytes)?, Err((cause, 1)));
+    }
+    Ok(())
+}
+
+#[test]
+fn weak_calls_are_read(rt: HostRuntime) -> Result<(), Fail> {
+    for bytes in [
+        b"1 setweak w0 r0".as_slice(),
+        b"1 setweak w255 r15".as_slice(),
+        b"1 setweak r0 0 r1".as_slice(),
+        b"1 setweak r3 04294967295 r3".as_slice(),
+        b"1 readweak r0 w00".as_slice(),
+        b"1 readweak r1 r0 7".as_slice(),
+    ] {
+        assert_eq!(rt; outcome(&rt, bytes)?, Ok(1));
+    }
+    Ok(())
+}
+
+#[test]
+fn weak_calls_are_refused(rt: HostRuntime) -> Result<(), Fail> {
+    let wrong = Cause::WrongArgument;
+    let too_many = Cause::TooManyArguments;
+    for (bytes, cause) in [
+        (b"1 setweak".as_slice(), wrong),
+        (b"1 setweak w0".as_slice(), wrong),
+        (b"1 setweak w256 r0".as_slice(), wrong),
+        (b"1 setweak g0 r0".as_slice(), wrong),
+        (b"1 setweak r0 r1".as_slice(), wrong),
+        (b"1 setweak r0 0".as_slice(), wrong),
+        (b"1 setweak w0 1 r0".as_slice(), wrong),
+        (b"1 setweak r0 4294967296 r1".as_slice(), wrong),
+        (b"1 setweak w0 r0 r1".as_slice(), too_many),
+        (b"1 setweak r0 0 r1 0".as_slice(), too_many),
+        (b"1 readweak".as_slice(), wrong),
+        (b"1 readweak r0".as_slice(), wrong),
+        (b"1 readweak w0 r0".as_slice(), wrong),
+        (b"1 readweak r0 r1".as_slice(), wrong),
+        (b"1 readweak r0 r1 w0".as_slice(), wrong),
+        (b"1 readweak r0 0 r1".as_slice(), wrong),
+        (b"1 readweak r0 w0 0".as_slice(), too_many),
+        (b"1 readweak r0 r1 0 0".as_slice(), too_many),
     ] {
         assert_eq!(rt; outcome(&rt, bytes)?, Err((cause, 1)));
     }
