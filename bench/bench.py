@@ -14,6 +14,7 @@ TOP = os.path.dirname(os.path.dirname(os.path.abspath(__file__)))
 PROGRAM = os.path.join(TOP, "crates", "autozone", "out", "autozone")
 MOST_LINES = 65_536
 MOST_BYTES = 4_194_304
+MOST_WORDS = 4_096
 
 
 def births():
@@ -53,7 +54,66 @@ def stores():
     return "option local 0\n" + "1 new r0 scanned 1\n" * 5000 + "1 new r1 scanned 1\n" + "1 store r0 0 r1\n" * 60_000
 
 
-CASES = {case.__name__: case for case in (births, long_lines, comments, large_blocks, statistics, chain, stores)}
+def retains():
+    """Counts of 10,000 blocks: each is made and retained, and then 9,000 of them are taken in no order, and their counts
+    fall to 0 and rise again: 46,000 retains and releases."""
+    made = "1 new r0 scanned 0\n1 retain r0\n" * 10_000
+    visit = "1 take r1 1.{}\n1 release r1\n1 retain r1\n1 retain r1\n1 release r1\n"
+    return made + "".join(visit.format(n * 7919 % 10_000) for n in range(9_000))
+
+
+def associations():
+    """54,000 pairs of 10,000 objects. The objects are made fifteen at a time, and get their pairs by turns, in no order
+    of their keys."""
+    made = "".join(f"1 new r{object} scanned 0\n" for object in range(15))
+    pairs = (f"1 setassoc r{n % 15} k{n * 97 % 256} r15\n" for n in range(81))
+    return "1 new r15 scanned 0\n" + (made + "".join(pairs)) * 667
+
+
+def keys():
+    """60,000 calls on the 256 keys of one object: values are set, read, and taken away by null."""
+    calls = (
+        f"1 setassoc r0 k{n * 97 % 256} r{1 if n % 3 else 2}\n1 getassoc r3 r0 k{n * 89 % 256}\n" for n in range(30_000)
+    )
+    return "1 new r0 scanned 0\n1 new r1 scanned 0\n" + "".join(calls)
+
+
+def weak_moves():
+    """28,672 weak locations, the words of seven blocks, that all show one block, and are moved to another one by one in no
+    order."""
+    made = "".join(f"1 new r{block} object {'W' * MOST_WORDS}\n" for block in range(7))
+    count = 7 * MOST_WORDS
+    shown = (f"1 setweak r{n // MOST_WORDS} {n % MOST_WORDS} r7\n" for n in range(count))
+    order = (n * 9973 % count for n in range(count))
+    moved = (f"1 setweak r{n // MOST_WORDS} {n % MOST_WORDS} r8\n" for n in order)
+    return made + "1 new r7 scanned 0\n1 new r8 scanned 0\n" + "".join(shown) + "".join(moved)
+
+
+def weak_reads():
+    """60,000 reads in no order of 4,096 weak locations, which show two blocks by turns."""
+    made = f"1 new r0 object {'W' * MOST_WORDS}\n1 new r1 scanned 0\n1 new r2 scanned 0\n"
+    shown = (f"1 setweak r0 {n} r{1 + n % 2}\n" for n in range(MOST_WORDS))
+    read = (f"1 readweak r3 r0 {n * 2503 % MOST_WORDS}\n" for n in range(60_000))
+    return made + "".join(shown) + "".join(read)
+
+
+CASES = {
+    case.__name__: case
+    for case in (
+        births,
+        long_lines,
+        comments,
+        large_blocks,
+        statistics,
+        chain,
+        stores,
+        retains,
+        associations,
+        keys,
+        weak_moves,
+        weak_reads,
+    )
+}
 
 
 def run(script):
