@@ -83,11 +83,11 @@ answered p n z call (Some k) right r x quiet fine still says does stands refused
 
 -- the reply goes to a register
 pub heard : (p n : Plain) (z : State) (call : Call) (m : Option Misuse) (to : ℕ) (v : Option BlockId) (r : Reply) → StandsFor p z → IsQuiet z p.thread call → r ≡ reply_or m (reply.Block v)
-    → ((mid : State) → Effect z p.thread call (reply.Block v) mid → (mid ≡ with_register z p.thread to v) × ((id : BlockId) → v ≡ Some id → IsThere z id))
+    → ((mid : State) → Effect z p.thread call (reply.Block v) mid → mid ≡ with_register z p.thread to v) → ((mid : State) → Effect z p.thread call (reply.Block v) mid → m ≡ None → (id : BlockId) → v ≡ Some id → IsThere z id)
     → SamePart p n → ((f : ℕ → Option BlockId) → Hold p.registers f → Hold n.registers (received f to r)) → n.heap.room ≡ [] → shared.Stepped n.heap z p.thread call r → Leads p n z call r
-heard p n z call m to v r s quiet says does part hold room =
-    answered p n z call m (reply.Block v) r (with_register z p.thread to v) quiet (λ k e. cc) s.shows.heap.cycle says (λ mid e. (does mid e).0)
-    (λ mid e is _ stands. registered p n z to v s part (λ f h. subst (λ k. Hold n.registers (received f to k)) is (hold f h)) stands room (does mid e).1)
+heard p n z call m to v r s quiet says does known part hold room =
+    answered p n z call m (reply.Block v) r (with_register z p.thread to v) quiet (λ k e. cc) s.shows.heap.cycle says does
+    (λ mid e is right stands. registered p n z to v s part (λ f h. subst (λ k. Hold n.registers (received f to k)) is (hold f h)) stands room (known mid e right))
     (λ k is stands. same_state p n z s part (λ f h. subst (λ k. Hold n.registers (received f to k)) is (hold f h)) stands room)
 
 -- nothing changes

@@ -86,6 +86,7 @@ registered p n z r v s c set stands room known = record {
     shown = s.sound.shown;
     showing = s.sound.showing;
     fits = s.sound.fits;
+    limit = s.sound.limit;
   };
   room = room;
 }
@@ -116,6 +117,7 @@ rooted p n z g v s c held stands room known = record {
     shown = s.sound.shown;
     showing = s.sound.showing;
     fits = s.sound.fits;
+    limit = s.sound.limit;
   };
   room = room;
 }
@@ -218,6 +220,7 @@ module _ (z : State) (id : BlockId) (at : ℕ) (w : Word) where
     shown = λ l b h. subst IsTrue (sym (escaped_same b)) (s.shown l b h);
     showing = λ a i b h. subst IsTrue (sym (escaped_same a)) (s.showing a i b h);
     fits = subst (λ u. u ≤ z.options.heap_quanta) (sym (total-edit ids_total exact_ids _ z.blocks id (put_word at w) (λ b. refl))) s.fits;
+    limit = s.limit;
   }
     where
       one : (q : BlockId) (b was : Block) → get z.blocks q ≡ Some was → (r : Ordering) → id_cmp id q ≡ r → Some (cond (is_eq r) (put_word at w was) was) ≡ Some b → b.since ≡ None → Whole b.layout b.words

@@ -279,6 +279,7 @@ module _ (p : Plain) (z : State) (first second : Option BlockId) (ids : List Blo
     shown = λ l b h. escaped_after b (s.sound.shown l b h);
     showing = λ a at b h. escaped_after a (s.sound.showing a at b h);
     fits = fits;
+    limit = s.sound.limit;
   }
 
   pub plan_stands : (n : Plain) → Shows n after → n.thread ≡ p.thread → n.heap.room ≡ [] → used_by n.heap.blocks ≤ n.heap.options.heap_quanta → StandsFor n after

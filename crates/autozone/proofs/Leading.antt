@@ -67,6 +67,12 @@ composed z e need after running tells right none fine step = record {
     go None h = h
     go (Some m) h = absurd (fine m h.0)
 
+-- the effect of a step whose call is no misuse
+pub right_effect : (z : State) (e : Entry) (after : State) → ((id : BlockId) → Need z e.thread e.call id → ⊥) → (FindsBusy z e.thread e.call → ⊥) → misuse_of z e.thread e.call (λ _. false) ≡ None → Step z e after
+    → (mid : State) × Effect z e.thread e.call e.reply mid × (after ≡ seen_now mid)
+right_effect z e after none never right step =
+    happens_effect z e.thread e.call e.reply after never (subst (λ (m : Option Misuse). MatchOption m (Happens z e.thread e.call e.reply after) (λ m. (e.reply ≡ reply.Misuse m) × (after ≡ z))) right (outcome z e after none step))
+
 -- a misuse where these blocks would escape
 pub refused : (z : State) (e : Entry) (need : BlockId → Bool) (m : Misuse) → z.ended e.thread ≡ false → Tells need (Need z e.thread e.call)
     → misuse_of z e.thread e.call need ≡ Some m → e.reply ≡ reply.Misuse m → Step z e z

@@ -142,6 +142,7 @@ module _ (z : State) (t to : ℕ) (l : Layout) (actions : List Action) where
       shown = λ w b h. out b (s.shown w b h);
       showing = λ a i b h. out a (s.showing a i b h);
       fits = fits;
+      limit = s.limit;
     }
       where
         one_of : (b : Bool) → (b ≡ true) ⊎ (b ≡ false)

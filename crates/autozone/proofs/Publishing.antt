@@ -29,7 +29,7 @@ use Rattle.autozone.specs.StandsFor.{StandsFor}
 use Rattle.autozone.proofs.Answered.{IsQuiet, Leads, answered}
 use Rattle.autozone.proofs.Escaping.{nothing_more, value_escaped, sound_heap, some_need, escaped_still}
 use Rattle.autozone.proofs.Moving.{escape_at, got_escaped}
-use Rattle.autozone.proofs.Leading.{composed}
+use Rattle.autozone.proofs.Leading.{composed, right_effect}
 use Rattle.autozone.proofs.Shared.{all_in_heap}
 
 -- the least misuse of a call that has one of the first three
@@ -82,6 +82,18 @@ published p m n z need call right r x s same tells fits quiet fine still says do
     let step = subst (λ t. Step y (record { thread = t; call = call; reply = r }) led.0) same led.1 in
     let none : (id : BlockId) → Need y p.thread call id → ⊥ = subst (λ t. (id : BlockId) → Need y t call id → ⊥) same quiet.none in
     (led.0, composed z (record { thread = p.thread; call = call; reply = r }) need led.0 s.shows.running tells fits none (λ k is. fine k (sym says ∙ is)) step, led.2)
+
+-- the same where the heap answers a misuse or this reply, and the call is none after the escape
+pub published_or : (p m n : Plain) (z : State) (need : BlockId → Bool) (call : Call) (wrong : Option Misuse) (right r : Reply) (x : State) → StandsFor p z → m.thread ≡ p.thread → Tells need (Need z p.thread call) → misuse_of z p.thread call need ≡ None
+    → misuse_of (with_escaped z need) m.thread call (λ _. false) ≡ None → IsQuiet (with_escaped z need) m.thread call → ((k : Misuse) → right ≡ reply.Misuse k → ⊥) → x.cycle ≡ None → r ≡ reply_or wrong right
+    → ((mid : State) → Effect (with_escaped z need) m.thread call right mid → mid ≡ x) → (r ≡ right → Stands n.heap x → StandsFor n x) → shared.Stepped n.heap (with_escaped z need) m.thread call r → Leads p n z call r
+published_or p m n z need call None right r x s same tells fits fits_now quiet fine still says does stands stepped =
+    published p m n z need call right r x s same tells fits quiet fine still says does (stands says) stepped
+published_or p m n z need call (Some k) right r x s same tells fits fits_now quiet fine still says does stands stepped =
+    let y = with_escaped z need in
+    let step = subst (λ w. Step y (record { thread = m.thread; call = call; reply = w }) stepped.0) says stepped.1 in
+    let effect = right_effect y (record { thread = m.thread; call = call; reply = reply.Misuse k }) stepped.0 quiet.none quiet.never fits_now step in
+    absurd (quiet.right k effect.0 effect.1)
 
 -- a block into which something is stored has escaped, where it is no misuse
 pub holds_escaped : (h : Shared) (z : State) (a : Option BlockId) (at : ℕ) (k : Class) → word_misuse h a at k ≡ None → IfSome a (λ id. IsTrue (is_escaped z id)) → HoldsEscaped z a

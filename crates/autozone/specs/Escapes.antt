@@ -1,5 +1,5 @@
 -- Blocks that escape together, as the plain zone finds them and takes them to the heap
-use Rattle.std.specs.Prelude.{◌≡◌, ◌≤◌, ◌+◌, ℕ, Bool, true, false, not, List, [], ◌∷◌, ◌++◌, Option, Some, None, IsSome, ◌⊎◌, map, slice_get, if◌then◌else◌}
+use Rattle.std.specs.Prelude.{◌≡◌, ◌<◌, ◌≤◌, ◌+◌, ℕ, Bool, true, false, not, List, [], ◌∷◌, ◌++◌, Option, Some, None, IsSome, IfSome, ◌⊎◌, map, slice_get, if◌then◌else◌}
 use Rattle.std.specs.Option.{option_map_or}
 use Rattle.std.specs.BTreeMap as tree
 use Rattle.std.specs.BTreeMap.{BTreeMap, is_at}
@@ -10,6 +10,7 @@ use Rattle.az_base.specs.declared.word.Word.{Word}
 use Rattle.az_base.specs.declared.word.Word.TheVariants as word
 use Rattle.az_base.specs.Ids.{id_cmp, among, same_id}
 use Rattle.block_layouts.specs.Layouts.{len_of, quanta}
+use Rattle.shared_heap.specs.Ready.{Ready}
 use Rattle.shared_heap.specs.Shared.{used_by, admitted}
 use Rattle.shared_heap.specs.Stands.{Stands}
 use Rattle.shared_heap.specs.Steps.{IsUnescaped}
@@ -120,3 +121,9 @@ pub record Moves (p n : Plain) (id : BlockId) (b : Own) : Type 0 where
 -- what the blocks lead to has escaped, or doesn't fit
 abbrev pub Escapes : Plain → Plain → Option BlockId → Option BlockId → Bool → Type 0
 Escapes p n first second fit = (z : State) → StandsFor p z → (need : BlockId → Bool) × Tells need (λ c. EscOf z first c ⊎ EscOf z second c) × (is_overfull z (quanta_needed z need) ≡ not fit) × StandsFor n (if fit then with_escaped z need else z)
+
+-- the heap has room for one more count, for an association of the first block and for a weak location that shows the second
+pub record HasRoom (r : Ready) (first second : Option BlockId) : Type 0 where
+  pub counts : 0 < r.counts
+  pub object : IfSome first (λ b. r.object ≡ Some b)
+  pub value : IfSome second (λ b. r.value ≡ Some b)

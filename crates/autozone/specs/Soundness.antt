@@ -26,4 +26,5 @@ pub record IsSound (t : ℕ) (z : State) : Type 0 where
   pub values : (a : BlockId) (key : ℕ) (b : BlockId) → get z.assocs (a, key) ≡ Some b → IsTrue (is_escaped z b)
   pub shown : (l : WeakLoc) (b : BlockId) → get z.weak l ≡ Some b → IsTrue (is_escaped z b)
   pub fits : used_quanta z ≤ z.options.heap_quanta
+  pub limit : 1 ≤ z.options.counts
   pub showing : (a : BlockId) (at : ℕ) (b : BlockId) → get z.weak (weak.Word a at) ≡ Some b → IsTrue (is_escaped z a)

@@ -8,7 +8,7 @@ ghost use Rattle.zone_model.specs.Escape.{with_escaped};
 ghost use Rattle.autozone.specs.declared.plain.zone.Own.{Own as AnOwn};
 ghost use Rattle.autozone.specs.Soundness.{IsSound};
 ghost use Rattle.autozone.specs.StandsFor.{IsReal, Kept, Shows};
-ghost use Rattle.autozone.specs.Escapes.{words_at, length_at, quanta_at, IsSeen, Visits, Follows, IsFirst, IsPlan, lengths_of, sum_of, CanMove, Moves, Escapes};
+ghost use Rattle.autozone.specs.Escapes.{words_at, length_at, quanta_at, IsSeen, Visits, Follows, IsFirst, IsPlan, lengths_of, sum_of, CanMove, Moves, Escapes, HasRoom};
 
 use crate::plain::words::referent;
 use crate::plain::zone::{Own, Plain};
@@ -191,6 +191,7 @@ fn move_all(plain: &mut Plain, ids: &[BlockId])
     ensures shows { (z : State) → Shows plain.old z → IsSound plain.old.thread z → Shows plain.new (with_escaped z (among ids.now)) }
     ensures thread { plain.new.thread ≡ plain.old.thread }
     ensures fits { used_by plain.new.heap.blocks ≤ plain.new.heap.options.heap_quanta }
+    ensures ready { plain.new.heap.ready ≡ plain.old.heap.ready }
 {
     for id in ids {
         move_one(plain, *id);
@@ -209,6 +210,7 @@ pub fn escape(
     ensures ok { IfOk result (λ fit. Escapes plain.old plain.new first second fit) }
     ensures err { OnErr result (Kept plain.old plain.new) }
     ensures thread { plain.new.thread ≡ plain.old.thread }
+    ensures ready { plain.new.heap.ready ≡ plain.old.heap.ready }
 {
     let ids = plan(alloc, &plain.blocks, first, second)?;
     if !fits(plain, &ids) {
@@ -219,4 +221,23 @@ pub fn escape(
     move_all(plain, &ids);
     plain.heap.unreserve();
     Ok(true)
+}
+
+/// The same, after room was taken for the heap's call that follows: for one more count, for an association of the first
+/// block, and for a weak location that shows the second. Where memory is wanting, nothing has escaped.
+pub fn publish(
+    alloc: Global,
+    plain: &mut Plain,
+    first: Option<BlockId>,
+    second: Option<BlockId>,
+) -> Result<bool, NoMemory>
+    requires { IsReal plain.old }
+    ensures ok { IfOk result (λ fit. Escapes plain.old plain.new first second fit) }
+    ensures err { OnErr result (Kept plain.old plain.new) }
+    ensures thread { plain.new.thread ≡ plain.old.thread }
+    ensures ready { OnOk result (HasRoom plain.new.heap.ready first second) }
+{
+    let (first, second) = (&first, &second);
+    plain.heap.ready(plain.thread, *first, *second)?;
+    escape(alloc, plain, *first, *second)
 }

@@ -1,6 +1,7 @@
 use Rattle.std.proofs.Common.{◌+◌, arith, IsSome, drop, take, length, sym, ap, subst, ◌∙◌, refl}
 use Rattle.std.proofs.lemmas.Option.{slice_get_read}
 use Rattle.az_base.specs.Ids.{among}
+use Rattle.shared_heap.specs.Shared.{Shared}
 use Rattle.zone_model.specs.Escape.{with_escaped}
 use Rattle.zone_model.proofs.Steps.{none_escaped}
 use Rattle.autozone.specs.StandsFor.{Shows}
@@ -10,7 +11,7 @@ use Rattle.autozone.proofs.Escaping.{there_was}
 use Rattle.autozone.proofs.plain.escapes.move_all.Goals as goal
 
 pub loop-id-init : goal.loop-id-init
-loop-id-init c = record { rest = c.requires; shows = λ z s sound. rw (none_escaped z) s; thread = refl }
+loop-id-init c = record { rest = c.requires; shows = λ z s sound. rw (none_escaped z) s; thread = refl; ready = refl }
 
 pub move_one-requires : goal.move_one-requires
 move_one-requires c =
@@ -38,6 +39,7 @@ loop-id-preserved c =
           let mine = sound.made id (there_was z (among (take i ids)) id (subst IsSome (sym (block_there p y id b shows moves.was)) refl)) ∙ sym c.loop-id.invariant.thread in
           subst (Shows n) (escaped_more z (take i ids) id ∙ ap (λ l. with_escaped z (among l)) (next_taken ids i id at)) (shows_move p n y id b shows moves mine);
       thread = moves.thread ∙ c.loop-id.invariant.thread;
+      ready = ap (λ (h : Shared). h.ready) moves.heap ∙ c.loop-id.invariant.ready;
     }
 
 pub returns-clause-fits : goal.returns-clause-fits

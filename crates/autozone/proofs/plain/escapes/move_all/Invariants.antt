@@ -12,4 +12,5 @@ invariant-loop-id l = record {
   rest : CanMove l.plain (drop l.id-index l.ids);
   shows : (z : State) → Shows l.fn.plain z → IsSound l.fn.plain.thread z → Shows l.plain (with_escaped z (among (take l.id-index l.ids)));
   thread : l.plain.thread ≡ l.fn.plain.thread;
+  ready : l.plain.heap.ready ≡ l.fn.plain.heap.ready;
 }

@@ -39,6 +39,7 @@ returns-clause-state c =
         shown = λ l b h. let no : None ≡ Some b = sym (get-empty loc_cmp l) ∙ h in cc (no);
         showing = λ a at b h. let no : None ≡ Some b = sym (get-empty loc_cmp _) ∙ h in cc (no);
         fits = let none : used_quanta (opening o) ≡ 0 = total-empty id_cmp _ in omega (arith, none);
+        limit = c.requires.counts.0;
       };
       room = ap (λ h. h.room) c.in_ok-heap.ensures.value;
     }
