@@ -21,7 +21,7 @@ use Rattle.shared_heap.specs.Shared.{Shared}
 use Rattle.shared_heap.specs.Stored.{Kept}
 use Rattle.shared_heap.specs.Stands.{Stands, kept_of, escaped_view}
 use Rattle.shared_heap.specs.Steps as shared
-use Rattle.shared_heap.specs.Words.{word_misuse, class_misuse}
+use Rattle.shared_heap.specs.Words.{word_misuse, class_misuse, reply_or}
 use Rattle.shared_heap.proofs.Stepping.{none_escape}
 use Rattle.shared_heap.proofs.Sums.{used_stands}
 use Rattle.autozone.specs.declared.plain.zone.Plain.{Plain}
