@@ -9,6 +9,7 @@ pub mod Walking
 pub mod Moving
 pub mod Escaping
 pub mod Publishing
+pub mod Counting
 pub mod Newborn
 pub mod Births
 pub mod Added

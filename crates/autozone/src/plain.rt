@@ -1,6 +1,7 @@
 //! The whole zone of one thread, in plain maps.
 
 mod births;
+mod counts;
 mod ends;
 mod escapes;
 mod playing;
