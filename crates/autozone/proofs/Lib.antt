@@ -10,6 +10,7 @@ pub mod Moving
 pub mod Escaping
 pub mod Publishing
 pub mod Counting
+pub mod Associations
 pub mod Newborn
 pub mod Births
 pub mod Added

@@ -1,5 +1,6 @@
 //! The whole zone of one thread, in plain maps.
 
+mod assocs;
 mod births;
 mod counts;
 mod ends;
