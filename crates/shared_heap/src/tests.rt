@@ -299,74 +299,72 @@ fn count(heap: &Heap, t: ThreadNo, id: &Option<BlockId>) -> Option<Reply> {
     Some(heap.count(t, *id))
 }
 
-#[test]
-fn counts_rise_to_the_option_and_fall(rt: HostRuntime) -> Result<(), Fail> {
-    let t = ThreadNo::new(1).expect(&rt, "a thread");
-    let mut options = Options::usual();
-    options.counts = 2;
-    let mut heap = Heap::new(rt.alloc(), options).expect(&rt, "memory");
+/// A heap with the option counts 2 and one block, and the block.
+fn heap_of_two_counts(alloc: Global, t: ThreadNo) -> Option<(Heap, Option<BlockId>)> {
     let id = BlockId {
         thread: t,
         serial: 0,
     };
-    admit_two(rt.alloc(), &mut heap, &id).expect(&rt, "room");
-    let id = &Some(id);
-    for (new, wrong) in [
-        (Some(1), None),
-        (Some(2), None),
-        (None, Some(Misuse::CountFull)),
-    ] {
-        let reply = retain(&mut heap, t, id).expect(&rt, "memory");
-        assert_eq!(rt; number(&reply), new);
-        assert_eq!(rt; misuse(&reply), wrong);
+    let id = &id;
+    let mut options = Options::usual();
+    options.counts = 2;
+    let mut heap = Heap::new(alloc, options).ok()?;
+    admit_two(alloc, &mut heap, id)?;
+    Some((heap, Some(*id)))
+}
+
+/// The number of a reply, or the misuse.
+fn told(reply: Option<Reply>) -> Option<Result<u64, Misuse>> {
+    match reply? {
+        Reply::Number(number) => Some(Ok(number)),
+        Reply::Misuse(misuse) => Some(Err(misuse)),
+        _ => None,
     }
-    assert_eq!(rt; heap.stats().retained, 1);
-    for (new, wrong) in [
-        (Some(1), None),
-        (Some(0), None),
-        (None, Some(Misuse::OverRelease)),
-    ] {
-        let reply = release(&mut heap, t, id).expect(&rt, "a reply");
-        assert_eq!(rt; number(&reply), new);
-        assert_eq!(rt; misuse(&reply), wrong);
-        let reply = count(&heap, t, id).expect(&rt, "a reply");
-        assert_eq!(rt; number(&reply), new.or(Some(0)));
+}
+
+#[test]
+fn counts_rise_to_the_option(rt: HostRuntime) -> Result<(), Fail> {
+    let t = ThreadNo::new(1).expect(&rt, "a thread");
+    let (mut heap, id) = heap_of_two_counts(rt.alloc(), t).expect(&rt, "a heap");
+    for right in [Ok(1), Ok(2), Err(Misuse::CountFull)] {
+        let reply = retain(&mut heap, t, &id);
+        assert_eq!(rt; told(reply), Some(right));
     }
-    assert_eq!(rt; heap.stats().retained, 0);
     Ok(())
 }
 
 #[test]
-fn null_has_no_count(rt: HostRuntime) -> Result<(), Fail> {
+fn counts_fall_to_nothing(rt: HostRuntime) -> Result<(), Fail> {
     let t = ThreadNo::new(1).expect(&rt, "a thread");
-    let mut heap = Heap::new(rt.alloc(), Options::usual()).expect(&rt, "memory");
-    let retained = retain(&mut heap, t, &None).expect(&rt, "memory");
-    let released = release(&mut heap, t, &None).expect(&rt, "a reply");
-    let counted = count(&heap, t, &None).expect(&rt, "a reply");
-    for reply in [&retained, &released, &counted] {
-        assert_eq!(rt; misuse(reply), Some(Misuse::NullBlock));
+    let (mut heap, id) = heap_of_two_counts(rt.alloc(), t).expect(&rt, "a heap");
+    let _ = retain(&mut heap, t, &id);
+    for right in [Ok(0), Err(Misuse::OverRelease)] {
+        let reply = release(&mut heap, t, &id);
+        assert_eq!(rt; told(reply), Some(right));
     }
+    let reply = count(&heap, t, &id);
+    assert_eq!(rt; told(reply), Some(Ok(0)));
     Ok(())
+}
+
+/// The block that a `take_held` replies.
+fn take(heap: &mut Heap, t: ThreadNo, id: &Option<BlockId>) -> Option<BlockId> {
+    let Some(id) = id else {
+        return None;
+    };
+    let reply = heap.take_held(t, *id).ok()?;
+    block(&reply)
 }
 
 #[test]
 fn blocks_with_a_count_are_taken(rt: HostRuntime) -> Result<(), Fail> {
     let t = ThreadNo::new(1).expect(&rt, "a thread");
-    let (mut heap, id) = heap_of_one(rt.alloc(), t, "S").expect(&rt, "a heap");
+    let (mut heap, id) = heap_of_two_counts(rt.alloc(), t).expect(&rt, "a heap");
     let id = &id;
-    let first = id.expect(&rt, "a block");
-    let early = heap.take_held(t, first).expect(&rt, "memory");
-    assert_eq!(rt; misuse(&early), Some(Misuse::NotHeld));
+    assert_eq!(rt; take(&mut heap, t, id), None);
     heap.ready(t, None, *id).expect(&rt, "memory");
-    retain(&mut heap, t, id).expect(&rt, "memory");
-    let taken = heap.take_held(t, first).expect(&rt, "memory");
-    assert_eq!(rt; block(&taken), *id);
-    let other = BlockId {
-        thread: t,
-        serial: 1,
-    };
-    let unknown = heap.take_held(t, other).expect(&rt, "memory");
-    assert_eq!(rt; misuse(&unknown), Some(Misuse::NotHeld));
+    let _ = retain(&mut heap, t, id);
+    assert_eq!(rt; take(&mut heap, t, id), *id);
     Ok(())
 }
 
