@@ -239,13 +239,84 @@ fn worked_scripts(rt: HostRuntime) -> Result<(), Fail> {
             "1 new r0 scanned 1 = 1.0\n1 setroot g255 r0 = ok\n1 new r1 unscanned 1 = 1.1\n1 new r2 scanned 1 = 1.2\n1 store r2 0 r1 = ok\n1 store r0 0 r2 = ok\n1 put r1 0 18446744073709551615 = ok\n1 get r1 0 = 18446744073709551615\n1 put r0 0 1 = misuse 3 WrongClass\n1 stats = blocks 3 quanta 3 retained 0 weak 0 assocs 0\n1 store r0 0 r15 = ok\n1 load r1 r0 0 = null\n1 leave = reclaimed none\nend entries 13 blocks 3 quanta 3 retained 0 weak 0 assocs 0\n",
         ),
     ];
-    for (script, text) in &rows {
-        let (status, out, err) = ran(&rt, &["play"], script.as_bytes(), 0, 0)?;
+    plays(&rt, &rows)
+}
+
+/// Each script is played, and its text is this one.
+fn plays(rt: &HostRuntime, rows: &[(&str, &str)]) -> Result<(), Fail> {
+    for (script, text) in rows {
+        let (status, out, err) = ran(rt, &["play"], script.as_bytes(), 0, 0)?;
         assert_eq!(rt; status, Status::Done);
         assert_eq!(rt; out.as_str(), *text);
         assert_eq!(rt; err.as_str(), "");
     }
     Ok(())
+}
+
+#[test]
+fn counts_and_associations(rt: HostRuntime) -> Result<(), Fail> {
+    let rows = [
+        (
+            "1 new r0 unscanned 1\n1 retain r0\n1 release r0\n1 release r0\n1 count r0\n",
+            "1 new r0 unscanned 1 = 1.0\n1 retain r0 = 1\n1 release r0 = 0\n1 release r0 = misuse 4 OverRelease\n1 count r0 = 0\n1 leave = reclaimed none\nend entries 6 blocks 1 quanta 1 retained 0 weak 0 assocs 0\n",
+        ),
+        (
+            "option counts 2\n1 new r0 unscanned 1\n1 retain r0\n1 retain r0\n1 retain r0\n",
+            "option counts 2\n1 new r0 unscanned 1 = 1.0\n1 retain r0 = 1\n1 retain r0 = 2\n1 retain r0 = misuse 5 CountFull\n1 leave = reclaimed none\nend entries 5 blocks 1 quanta 1 retained 1 weak 0 assocs 0\n",
+        ),
+        (
+            "option serials 1\n1 new r0 scanned 0\n1 new r1 scanned 0\n1 take r2 1.0\n1 retain r0\n1 take r2 1.0\n",
+            "option serials 1\n1 new r0 scanned 0 = 1.0\n1 new r1 scanned 0 = misuse 6 SerialsUsed\n1 take r2 1.0 = misuse 8 NotHeld\n1 retain r0 = 1\n1 take r2 1.0 = 1.0\n1 leave = reclaimed none\nend entries 6 blocks 1 quanta 1 retained 1 weak 0 assocs 0\n",
+        ),
+        // A retained block is there when no register holds it any more.
+        (
+            "1 new r0 scanned 1\n1 retain r0\n1 drop r0\n1 take r5 1.0\n1 count r5\n1 count r0\n1 take r6 1.1\n",
+            "1 new r0 scanned 1 = 1.0\n1 retain r0 = 1\n1 drop r0 = ok\n1 take r5 1.0 = 1.0\n1 count r5 = 1\n1 count r0 = misuse 1 NullBlock\n1 take r6 1.1 = misuse 8 NotHeld\n1 leave = reclaimed none\nend entries 8 blocks 1 quanta 1 retained 1 weak 0 assocs 0\n",
+        ),
+        // An unescaped block has no count and no value, and stays unescaped.
+        (
+            "1 new r0 scanned 0\n1 count r0\n1 release r0\n1 getassoc r1 r0 k3\n",
+            "1 new r0 scanned 0 = 1.0\n1 count r0 = 0\n1 release r0 = misuse 4 OverRelease\n1 getassoc r1 r0 k3 = null\n1 leave = reclaimed 1.0\nend entries 5 blocks 0 quanta 0 retained 0 weak 0 assocs 0\n",
+        ),
+        (
+            "option heap 1\noption counts 1\n1 new r0 scanned 1\n1 new r1 scanned 1\n1 retain r0\n1 retain r0\n1 retain r1\n1 setassoc r0 k0 r1\n1 setassoc r1 k0 r0\n1 count r1\n",
+            "option heap 1\noption counts 1\n1 new r0 scanned 1 = 1.0\n1 new r1 scanned 1 = 1.1\n1 retain r0 = 1\n1 retain r0 = misuse 5 CountFull\n1 retain r1 = misuse 7 ZoneFull\n1 setassoc r0 k0 r1 = misuse 7 ZoneFull\n1 setassoc r1 k0 r0 = misuse 7 ZoneFull\n1 count r1 = 0\n1 leave = reclaimed 1.1\nend entries 9 blocks 1 quanta 1 retained 1 weak 0 assocs 0\n",
+        ),
+        (
+            "1 new r0 scanned 0\n1 new r1 scanned 0\n1 setassoc r0 k0 r1\n1 setassoc r0 k0 r0\n1 getassoc r2 r0 k0\n1 setassoc r0 k0 r3\n1 setassoc r3 k0 r0\n",
+            "1 new r0 scanned 0 = 1.0\n1 new r1 scanned 0 = 1.1\n1 setassoc r0 k0 r1 = null\n1 setassoc r0 k0 r0 = 1.1\n1 getassoc r2 r0 k0 = 1.0\n1 setassoc r0 k0 r3 = 1.0\n1 setassoc r3 k0 r0 = misuse 1 NullBlock\n1 leave = reclaimed none\nend entries 8 blocks 2 quanta 2 retained 0 weak 0 assocs 0\n",
+        ),
+        (
+            "1 new r0 scanned 0\n1 setassoc r0 k9 r1\n1 getassoc r2 r0 k9\n1 setassoc r0 k255 r0\n1 stats\n",
+            "1 new r0 scanned 0 = 1.0\n1 setassoc r0 k9 r1 = null\n1 getassoc r2 r0 k9 = null\n1 setassoc r0 k255 r0 = null\n1 stats = blocks 1 quanta 1 retained 0 weak 0 assocs 1\n1 leave = reclaimed none\nend entries 6 blocks 1 quanta 1 retained 0 weak 0 assocs 1\n",
+        ),
+    ];
+    plays(&rt, &rows)
+}
+
+#[test]
+fn weak_locations(rt: HostRuntime) -> Result<(), Fail> {
+    let rows = [
+        (
+            "1 new r0 object W\n1 setweak r0 0 r0\n1 readweak r1 r0 0\n1 setweak w3 r0\n1 setweak w3 r2\n1 readweak r1 w3\n1 setweak r2 0 r0\n",
+            "1 new r0 object W = 1.0\n1 setweak r0 0 r0 = 1.0\n1 readweak r1 r0 0 = 1.0\n1 setweak w3 r0 = 1.0\n1 setweak w3 r2 = null\n1 readweak r1 w3 = null\n1 setweak r2 0 r0 = misuse 1 NullBlock\n1 leave = reclaimed none\nend entries 8 blocks 1 quanta 1 retained 0 weak 1 assocs 0\n",
+        ),
+        // Two locations of one block, of which one is assigned again.
+        (
+            "1 new r0 scanned 0\n1 new r1 scanned 0\n1 setweak w0 r0\n1 setweak w1 r0\n1 setweak w0 r1\n1 readweak r2 w0\n1 readweak r3 w1\n1 setweak w1 r9\n1 readweak r3 w1\n1 stats\n",
+            "1 new r0 scanned 0 = 1.0\n1 new r1 scanned 0 = 1.1\n1 setweak w0 r0 = 1.0\n1 setweak w1 r0 = 1.0\n1 setweak w0 r1 = 1.1\n1 readweak r2 w0 = 1.1\n1 readweak r3 w1 = 1.0\n1 setweak w1 r9 = null\n1 readweak r3 w1 = null\n1 stats = blocks 2 quanta 2 retained 0 weak 1 assocs 0\n1 leave = reclaimed none\nend entries 11 blocks 2 quanta 2 retained 0 weak 1 assocs 0\n",
+        ),
+        // The block whose word is named escapes, where it is no misuse; a read makes nothing escape.
+        (
+            "1 new r0 object SW\n1 setweak r0 0 r0\n1 setweak r0 2 r0\n1 readweak r1 r0 1\n1 readweak r1 r0 0\n1 stats\n1 setweak r0 1 r5\n1 stats\n",
+            "1 new r0 object SW = 1.0\n1 setweak r0 0 r0 = misuse 3 WrongClass\n1 setweak r0 2 r0 = misuse 2 NoWord\n1 readweak r1 r0 1 = null\n1 readweak r1 r0 0 = misuse 3 WrongClass\n1 stats = blocks 0 quanta 0 retained 0 weak 0 assocs 0\n1 setweak r0 1 r5 = null\n1 stats = blocks 1 quanta 1 retained 0 weak 0 assocs 0\n1 leave = reclaimed none\nend entries 9 blocks 1 quanta 1 retained 0 weak 0 assocs 0\n",
+        ),
+        (
+            "option heap 1\n1 new r0 scanned 4\n1 setweak w0 r0\n1 readweak r1 w0\n1 readweak r2 r1 0\n",
+            "option heap 1\n1 new r0 scanned 4 = 1.0\n1 setweak w0 r0 = misuse 7 ZoneFull\n1 readweak r1 w0 = null\n1 readweak r2 r1 0 = misuse 1 NullBlock\n1 leave = reclaimed 1.0\nend entries 5 blocks 0 quanta 0 retained 0 weak 0 assocs 0\n",
+        ),
+    ];
+    plays(&rt, &rows)
 }
 
 #[test]

@@ -6,10 +6,13 @@ ghost use Rattle.autozone.specs.StandsFor.{IsReal, Stepped, Kept};
 ghost use Rattle.autozone.specs.Histories.{IsHistoryOf};
 ghost use Rattle.autozone.specs.Playing.{IsBuiltCall, IsHistoryOfOne};
 
+use crate::plain::assocs::{get_assoc, set_assoc};
 use crate::plain::births::make_block;
+use crate::plain::counts::{count, release, retain, take};
 use crate::plain::ends::{leave, stats};
 use crate::plain::registers::{copy, drop_reg};
 use crate::plain::roots::{get_root, set_root};
+use crate::plain::weak::{read_weak, set_weak};
 use crate::plain::words::{get, load, put, store};
 use crate::plain::zone::Plain;
 use az_base::{NoMemory, Options, ThreadNo};
@@ -47,6 +50,14 @@ fn step(alloc: Global, plain: &mut Plain, call: &Call) -> Result<Reply, NoMemory
         Call::SetRoot { root, from } => set_root(alloc, plain, *root, *from),
         Call::GetRoot { to, root } => get_root(plain, *to, *root),
         Call::Stats => Ok(Reply::Stats(stats(plain))),
+        Call::Retain { reg } => retain(alloc, plain, *reg),
+        Call::Release { reg } => Ok(release(plain, *reg)),
+        Call::Count { reg } => Ok(count(plain, *reg)),
+        Call::Take { to, id } => take(plain, *to, *id),
+        Call::SetAssoc { object, key, value } => set_assoc(alloc, plain, *object, *key, *value),
+        Call::GetAssoc { to, object, key } => get_assoc(plain, *to, *object, *key),
+        Call::SetWeak { loc, from } => set_weak(alloc, plain, *loc, *from),
+        Call::ReadWeak { to, loc } => read_weak(plain, *to, *loc),
         _ => unreachable!(),
     }
 }

@@ -28,3 +28,27 @@ returns-in-Store-clause-ok c = rw c.in-Store.is c.store.ensures.ok
 
 pub returns-in-SetRoot-clause-ok : goal.returns-in-SetRoot-clause-ok
 returns-in-SetRoot-clause-ok c = rw c.in-SetRoot.is c.set_root.ensures.ok
+
+pub returns-in-Retain-clause-ok : goal.returns-in-Retain-clause-ok
+returns-in-Retain-clause-ok c = rw c.in-Retain.is c.retain.ensures.ok
+
+pub returns-in-Release-clause-ok : goal.returns-in-Release-clause-ok
+returns-in-Release-clause-ok c = rw c.in-Release.is c.release.ensures.step
+
+pub returns-in-Count-clause-ok : goal.returns-in-Count-clause-ok
+returns-in-Count-clause-ok c = rw c.in-Count.is c.count.ensures
+
+pub returns-in-Take-clause-ok : goal.returns-in-Take-clause-ok
+returns-in-Take-clause-ok c = rw c.in-Take.is c.take.ensures.ok
+
+pub returns-in-SetAssoc-clause-ok : goal.returns-in-SetAssoc-clause-ok
+returns-in-SetAssoc-clause-ok c = rw c.in-SetAssoc.is c.set_assoc.ensures.ok
+
+pub returns-in-GetAssoc-clause-ok : goal.returns-in-GetAssoc-clause-ok
+returns-in-GetAssoc-clause-ok c = rw c.in-GetAssoc.is c.get_assoc.ensures.ok
+
+pub returns-in-SetWeak-clause-ok : goal.returns-in-SetWeak-clause-ok
+returns-in-SetWeak-clause-ok c = rw c.in-SetWeak.is c.set_weak.ensures.ok
+
+pub returns-in-ReadWeak-clause-ok : goal.returns-in-ReadWeak-clause-ok
+returns-in-ReadWeak-clause-ok c = rw c.in-ReadWeak.is c.read_weak.ensures.ok
