@@ -11,6 +11,7 @@ pub mod Escaping
 pub mod Publishing
 pub mod Counting
 pub mod Associations
+pub mod WeakLocations
 pub mod Newborn
 pub mod Births
 pub mod Added

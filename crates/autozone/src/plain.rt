@@ -8,6 +8,7 @@ mod escapes;
 mod playing;
 mod registers;
 mod roots;
+mod weak;
 mod words;
 mod zone;
 
