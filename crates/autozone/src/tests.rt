@@ -239,18 +239,16 @@ fn worked_scripts(rt: HostRuntime) -> Result<(), Fail> {
             "1 new r0 scanned 1 = 1.0\n1 setroot g255 r0 = ok\n1 new r1 unscanned 1 = 1.1\n1 new r2 scanned 1 = 1.2\n1 store r2 0 r1 = ok\n1 store r0 0 r2 = ok\n1 put r1 0 18446744073709551615 = ok\n1 get r1 0 = 18446744073709551615\n1 put r0 0 1 = misuse 3 WrongClass\n1 stats = blocks 3 quanta 3 retained 0 weak 0 assocs 0\n1 store r0 0 r15 = ok\n1 load r1 r0 0 = null\n1 leave = reclaimed none\nend entries 13 blocks 3 quanta 3 retained 0 weak 0 assocs 0\n",
         ),
     ];
-    plays(&rt, &rows)
-}
-
-/// Each script is played, and its text is this one.
-fn plays(rt: &HostRuntime, rows: &[(&str, &str)]) -> Result<(), Fail> {
-    for (script, text) in rows {
-        let (status, out, err) = ran(rt, &["play"], script.as_bytes(), 0, 0)?;
-        assert_eq!(rt; status, Status::Done);
-        assert_eq!(rt; out.as_str(), *text);
-        assert_eq!(rt; err.as_str(), "");
+    for (script, text) in &rows {
+        assert!(rt; is_played(&rt, script, text)?);
     }
     Ok(())
+}
+
+/// Whether the script is played, and its text is this one.
+fn is_played(rt: &HostRuntime, script: &str, text: &str) -> Result<bool, Fail> {
+    let (status, out, err) = ran(rt, &["play"], script.as_bytes(), 0, 0)?;
+    Ok(status == Status::Done && out.as_str() == text && err.as_str().is_empty())
 }
 
 #[test]
@@ -291,7 +289,10 @@ fn counts_and_associations(rt: HostRuntime) -> Result<(), Fail> {
             "1 new r0 scanned 0 = 1.0\n1 setassoc r0 k9 r1 = null\n1 getassoc r2 r0 k9 = null\n1 setassoc r0 k255 r0 = null\n1 stats = blocks 1 quanta 1 retained 0 weak 0 assocs 1\n1 leave = reclaimed none\nend entries 6 blocks 1 quanta 1 retained 0 weak 0 assocs 1\n",
         ),
     ];
-    plays(&rt, &rows)
+    for (script, text) in &rows {
+        assert!(rt; is_played(&rt, script, text)?);
+    }
+    Ok(())
 }
 
 #[test]
@@ -316,7 +317,10 @@ fn weak_locations(rt: HostRuntime) -> Result<(), Fail> {
             "option heap 1\n1 new r0 scanned 4 = 1.0\n1 setweak w0 r0 = misuse 7 ZoneFull\n1 readweak r1 w0 = null\n1 readweak r2 r1 0 = misuse 1 NullBlock\n1 leave = reclaimed 1.0\nend entries 5 blocks 0 quanta 0 retained 0 weak 0 assocs 0\n",
         ),
     ];
-    plays(&rt, &rows)
+    for (script, text) in &rows {
+        assert!(rt; is_played(&rt, script, text)?);
+    }
+    Ok(())
 }
 
 #[test]
