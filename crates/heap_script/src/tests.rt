@@ -249,7 +249,7 @@ fn counts_and_associations_are_refused(rt: HostRuntime) -> Result<(), Fail> {
         (b"1 retain r16".as_slice(), wrong),
         (b"1 retain r0 r1".as_slice(), too_many),
         (b"1 release".as_slice(), wrong),
-        (b"1 release R0".as_slice(), wrong),
+        (b"1 release q0".as_slice(), wrong),
         (b"1 release r0 1".as_slice(), too_many),
         (b"1 count".as_slice(), wrong),
         (b"1 count 1.0".as_slice(), wrong),
