@@ -27,7 +27,7 @@ use Rattle.autozone.specs.declared.plain.zone.Plain.{Plain}
 use Rattle.autozone.specs.Soundness.{IsSound}
 use Rattle.autozone.specs.StandsFor.{StandsFor, seen}
 use Rattle.autozone.proofs.Answered.{IsQuiet}
-use Rattle.autozone.proofs.Changes.{SamePart, SameHold}
+use Rattle.autozone.proofs.Changes.{SamePart, SameHold, heap_shows}
 use Rattle.autozone.proofs.Escaping.{some_need, value_escaped}
 use Rattle.autozone.proofs.Publishing.{none_more}
 
@@ -54,16 +54,7 @@ assoc_was z a key v b k c h = go (pair_cmp (b, k) (a, key)) refl (sym (get-with_
 pub assoc_set : (p n : Plain) (z : State) (a : BlockId) (key : ℕ) (v : Option BlockId) → StandsFor p z → SamePart p n → SameHold p n → Stands n.heap (with_assoc z a key v) → n.heap.room ≡ []
     → IsTrue (is_escaped z a) → ((id : BlockId) → v ≡ Some id → IsTrue (is_escaped z id)) → StandsFor n (with_assoc z a key v)
 assoc_set p n z a key v s c held stands room out known = record {
-  shows = record {
-    heap = stands;
-    options = s.shows.options ∙ sym c.options;
-    blocks = λ q. s.shows.blocks q ∙ ap (λ m. option_map seen (tree.get id_cmp m q)) (sym c.blocks);
-    registers = rw c.thread (held (z.registers p.thread) s.shows.registers);
-    serials = rw c.thread (s.shows.serials ∙ sym c.serials);
-    fresh = λ k h. rw c.thread (s.shows.fresh k (omega (arith, h, c.serials)));
-    own = rw c.thread (s.shows.own ∙ sym c.own);
-    running = rw c.thread s.shows.running;
-  };
+  shows = heap_shows p n z _ s.shows c held record { options = refl; blocks = refl; registers = refl; serials = refl; ended = refl } stands;
   sound = rw c.thread record {
     made = s.sound.made;
     filled = s.sound.filled;
@@ -81,11 +72,6 @@ assoc_set p n z a key v s c held stands room out known = record {
   };
   room = room;
 }
-
--- the second of what escaped has escaped
-pub second_out : (p : Plain) (z : State) (need : BlockId → Bool) (first v : Option BlockId) (from : ℕ) → StandsFor p z → z.registers p.thread from ≡ v → Tells need (λ c. EscOf z first c ⊎ EscOf z v c) → IfSome v (λ id. IsTrue (is_escaped (with_escaped z need) id))
-second_out p z need first None from s holds tells = tt
-second_out p z need first (Some id) from s holds tells = value_escaped z need first (Some id) id tells (inr refl) (s.sound.registers from id holds)
 
 -- what the call makes escape
 pub assoc_tells : (z : State) (t : ℕ) (need : BlockId → Bool) (object value : ℕ) (key : Key) (a v : Option BlockId) → a ≡ z.registers t object → v ≡ z.registers t value → Tells need (λ c. EscOf z a c ⊎ EscOf z v c) → Tells need (Need z t (call.SetAssoc object key value))

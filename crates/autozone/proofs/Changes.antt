@@ -1,5 +1,5 @@
 -- What a call changes: a register, a root, a word of a block
-use Rattle.std.proofs.Common.{◌≡◌, ℕ, ◌≤◌, Bool, true, false, cond, ◌&&◌, ◌==◌, [], Option, Some, None, IsSome, IsTrue, slice_get, refl, sym, ap, subst, ◌∙◌, arith, eq-eqb, ◌⊎◌, inl, inr, is_some}
+use Rattle.std.proofs.Common.{◌≡◌, ℕ, ◌≤◌, Bool, true, false, cond, ◌&&◌, ◌==◌, [], Option, Some, None, IsSome, IsTrue, slice_get, refl, sym, ap, subst, ◌∙◌, arith, eq-eqb, ◌⊎◌, inl, inr, is_some, is_none}
 use Rattle.std.specs.Option.{option_map, option_and_then}
 use Rattle.std.specs.declared.cmp.Ordering.{Ordering}
 use Rattle.std.specs.declared.cmp.Ordering.TheVariants.{Less, Equal, Greater}
@@ -11,6 +11,7 @@ use Rattle.az_base.specs.declared.word.Word.{Word}
 use Rattle.az_base.specs.declared.word.Word.TheVariants as word
 use Rattle.az_base.specs.Ids.{id_cmp, same_id, ids_total, exact_ids}
 use Rattle.zone_model.specs.State.{State, Block, with_register, with_root, with_word, is_escaped}
+use Rattle.zone_model.specs.Quanta.{quanta_where, own_quanta}
 use Rattle.zone_model.specs.Reach.{WordEdge}
 use Rattle.shared_heap.specs.Stands.{Stands, kept_of, escaped_view}
 use Rattle.shared_heap.specs.Whole.{Takes, Whole}
@@ -18,7 +19,7 @@ use Rattle.autozone.specs.declared.plain.zone.Own.{Own}
 use Rattle.autozone.specs.declared.plain.zone.Plain.{Plain}
 use Rattle.autozone.specs.Registers.{Hold}
 use Rattle.autozone.specs.Soundness.{IsSound, IsThere}
-use Rattle.autozone.specs.StandsFor.{StandsFor, seen, unescaped}
+use Rattle.autozone.specs.StandsFor.{Shows, StandsFor, seen, unescaped}
 use Rattle.autozone.specs.Words.{SetsWord, put_word}
 use Rattle.autozone.proofs.Editing.{get-edit, total-edit, set_or_was, whole_set}
 
@@ -42,19 +43,31 @@ either_held : {X : Type 0} (b : Bool) (v o : Option X) (x : X) → cond b v o �
 either_held true v o x h = inl h
 either_held false v o x h = inr h
 
+-- the states differ in nothing but what the heap alone has
+pub record HeapDiffers (z x : State) : Type 0 where
+  pub options : x.options ≡ z.options
+  pub blocks : x.blocks ≡ z.blocks
+  pub registers : x.registers ≡ z.registers
+  pub serials : x.serials ≡ z.serials
+  pub ended : x.ended ≡ z.ended
+
+-- the heap alone has changed, and stands for the other state
+pub heap_shows : (p n : Plain) (z x : State) → Shows p z → SamePart p n → SameHold p n → HeapDiffers z x → Stands n.heap x → Shows n x
+heap_shows p n z x s c held d stands = record {
+  heap = stands;
+  options = d.options ∙ s.options ∙ sym c.options;
+  blocks = λ q. ap (λ m. unescaped (get m q)) d.blocks ∙ s.blocks q ∙ ap (λ m. option_map seen (tree.get id_cmp m q)) (sym c.blocks);
+  registers = subst (λ f. Hold n.registers f) (ap (λ f. f p.thread) (sym d.registers) ∙ ap x.registers (sym c.thread)) (held (z.registers p.thread) s.registers);
+  serials = ap x.serials c.thread ∙ ap (λ f. f p.thread) d.serials ∙ s.serials ∙ sym c.serials;
+  fresh = λ k h. rw (c.thread, d.blocks) (s.fresh k (omega (arith, h, c.serials)));
+  own = ap (own_quanta x) c.thread ∙ ap (λ m. quanta_where (λ id b. (id.thread == p.thread) && is_none b.since) m) d.blocks ∙ s.own ∙ sym c.own;
+  running = ap x.ended c.thread ∙ ap (λ f. f p.thread) d.ended ∙ s.running;
+}
+
 -- the heap alone may have changed, and stands for the same state
 pub same_state : (p n : Plain) (z : State) → StandsFor p z → SamePart p n → SameHold p n → Stands n.heap z → n.heap.room ≡ [] → StandsFor n z
 same_state p n z s c held stands room = record {
-  shows = record {
-    heap = stands;
-    options = s.shows.options ∙ sym c.options;
-    blocks = λ q. s.shows.blocks q ∙ ap (λ m. option_map seen (tree.get id_cmp m q)) (sym c.blocks);
-    registers = rw c.thread (held (z.registers p.thread) s.shows.registers);
-    serials = rw c.thread (s.shows.serials ∙ sym c.serials);
-    fresh = λ k h. rw c.thread (s.shows.fresh k (omega (arith, h, c.serials)));
-    own = rw c.thread (s.shows.own ∙ sym c.own);
-    running = rw c.thread s.shows.running;
-  };
+  shows = heap_shows p n z _ s.shows c held record { options = refl; blocks = refl; registers = refl; serials = refl; ended = refl } stands;
   sound = rw c.thread s.sound;
   room = room;
 }
@@ -94,16 +107,7 @@ registered p n z r v s c set stands room known = record {
 -- the heap has changed by a root, which holds null or an escaped block
 pub rooted : (p n : Plain) (z : State) (g : ℕ) (v : Option BlockId) → StandsFor p z → SamePart p n → SameHold p n → Stands n.heap (with_root z g v) → n.heap.room ≡ [] → ((id : BlockId) → v ≡ Some id → IsTrue (is_escaped z id)) → StandsFor n (with_root z g v)
 rooted p n z g v s c held stands room known = record {
-  shows = record {
-    heap = stands;
-    options = s.shows.options ∙ sym c.options;
-    blocks = λ q. s.shows.blocks q ∙ ap (λ m. option_map seen (tree.get id_cmp m q)) (sym c.blocks);
-    registers = rw c.thread (held (z.registers p.thread) s.shows.registers);
-    serials = rw c.thread (s.shows.serials ∙ sym c.serials);
-    fresh = λ k h. rw c.thread (s.shows.fresh k (omega (arith, h, c.serials)));
-    own = rw c.thread (s.shows.own ∙ sym c.own);
-    running = rw c.thread s.shows.running;
-  };
+  shows = heap_shows p n z _ s.shows c held record { options = refl; blocks = refl; registers = refl; serials = refl; ended = refl } stands;
   sound = rw c.thread record {
     made = s.sound.made;
     filled = s.sound.filled;

@@ -28,7 +28,7 @@ use Rattle.autozone.specs.declared.plain.zone.Own.{Own}
 use Rattle.autozone.specs.declared.plain.zone.Plain.{Plain}
 use Rattle.autozone.specs.Soundness.{IsThere}
 use Rattle.autozone.specs.StandsFor.{StandsFor, seen}
-use Rattle.autozone.proofs.Changes.{SamePart, SameHold, same_state, escaped_there}
+use Rattle.autozone.proofs.Changes.{SamePart, SameHold, heap_shows, same_state, escaped_there}
 use Rattle.autozone.proofs.Escaping.{value_escaped}
 use Rattle.autozone.proofs.Naming.{own_not_escaped}
 
@@ -60,16 +60,7 @@ counted_or_was m id (Some n) q h = go (same_id q id) refl (subst IsSome (get-ins
 -- the heap has changed by the count of an escaped block
 pub counted : (p n : Plain) (z : State) (id : BlockId) (count : ℕ) → StandsFor p z → SamePart p n → SameHold p n → Stands n.heap (with_count z id count) → n.heap.room ≡ [] → IsTrue (is_escaped z id) → StandsFor n (with_count z id count)
 counted p n z id count s c held stands room out = record {
-  shows = record {
-    heap = stands;
-    options = s.shows.options ∙ sym c.options;
-    blocks = λ q. s.shows.blocks q ∙ ap (λ m. option_map seen (tree.get id_cmp m q)) (sym c.blocks);
-    registers = rw c.thread (held (z.registers p.thread) s.shows.registers);
-    serials = rw c.thread (s.shows.serials ∙ sym c.serials);
-    fresh = λ k h. rw c.thread (s.shows.fresh k (omega (arith, h, c.serials)));
-    own = rw c.thread (s.shows.own ∙ sym c.own);
-    running = rw c.thread s.shows.running;
-  };
+  shows = heap_shows p n z _ s.shows c held record { options = refl; blocks = refl; registers = refl; serials = refl; ended = refl } stands;
   sound = rw c.thread record {
     made = s.sound.made;
     filled = s.sound.filled;
@@ -188,15 +179,3 @@ release_room h (Some id) (reply.Reclaimed gone) = refl
 release_room h (Some id) (reply.Settled gone kept) = refl
 release_room h (Some id) (reply.Stats s) = refl
 release_room h (Some id) (reply.Misuse m) = refl
-
--- a test for the second block, where there is no first one
-pub one_second : (z : State) (need : BlockId → Bool) (v w : Option BlockId) → v ≡ w → Tells need (λ c. EscOf z None c ⊎ EscOf z v c) → Tells need (EscOf z w)
-one_second z need v w same tells c = (λ h. elim ((tells c).0 h) [ inl e ↦ absurd e | inr e ↦ subst (λ o. EscOf z o c) same e ], λ e. (tells c).1 (inr (subst (λ o. EscOf z o c) (sym same) e)))
-
--- what is published has escaped
-pub out_second : (p : Plain) (z : State) (need : BlockId → Bool) (id : BlockId) (reg : ℕ) → StandsFor p z → z.registers p.thread reg ≡ Some id → Tells need (λ c. EscOf z None c ⊎ EscOf z (Some id) c) → IsTrue (is_escaped (with_escaped z need) id)
-out_second p z need id reg s holds tells = value_escaped z need None (Some id) id tells (inr refl) (s.sound.registers reg id holds)
-
--- also where a register holds it
-pub out_in : (y : State) (v : Option BlockId) (id : BlockId) → v ≡ Some id → IsTrue (is_escaped y id) → IfSome v (λ q. IsTrue (is_escaped y q))
-out_in y v id holds out = subst (λ o. IfSome o (λ q. IsTrue (is_escaped y q))) (sym holds) out

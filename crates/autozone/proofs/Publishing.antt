@@ -63,10 +63,19 @@ nothing_full p z s = nothing_more p z s.shows (rw (← used_stands p.heap z s.sh
 pub one_first : (z : State) (need : BlockId → Bool) (v w : Option BlockId) → v ≡ w → Tells need (λ c. EscOf z v c ⊎ EscOf z None c) → Tells need (EscOf z w)
 one_first z need v w same tells c = (λ h. elim ((tells c).0 h) [ inl e ↦ subst (λ o. EscOf z o c) same e | inr e ↦ absurd e ], λ e. (tells c).1 (inl (subst (λ o. EscOf z o c) (sym same) e)))
 
+-- the same of the second block, where there is no first one
+pub one_second : (z : State) (need : BlockId → Bool) (v w : Option BlockId) → v ≡ w → Tells need (λ c. EscOf z None c ⊎ EscOf z v c) → Tells need (EscOf z w)
+one_second z need v w same tells c = (λ h. elim ((tells c).0 h) [ inl e ↦ absurd e | inr e ↦ subst (λ o. EscOf z o c) same e ], λ e. (tells c).1 (inr (subst (λ o. EscOf z o c) (sym same) e)))
+
 -- what is stored has escaped
 pub first_out : (p : Plain) (z : State) (need : BlockId → Bool) (v second : Option BlockId) (from : ℕ) → StandsFor p z → z.registers p.thread from ≡ v → Tells need (λ c. EscOf z v c ⊎ EscOf z second c) → IfSome v (λ id. IsTrue (is_escaped (with_escaped z need) id))
 first_out p z need None second from s holds tells = tt
 first_out p z need (Some id) second from s holds tells = value_escaped z need (Some id) second id tells (inl refl) (s.sound.registers from id holds)
+
+-- and so has what goes with it
+pub second_out : (p : Plain) (z : State) (need : BlockId → Bool) (first v : Option BlockId) (from : ℕ) → StandsFor p z → z.registers p.thread from ≡ v → Tells need (λ c. EscOf z first c ⊎ EscOf z v c) → IfSome v (λ id. IsTrue (is_escaped (with_escaped z need) id))
+second_out p z need first None from s holds tells = tt
+second_out p z need first (Some id) from s holds tells = value_escaped z need first (Some id) id tells (inr refl) (s.sound.registers from id holds)
 
 -- after an escape nothing more escapes
 pub none_more : (m : Plain) (y : State) (v : Option BlockId) → StandsFor m y → IfSome v (λ id. IsTrue (is_escaped y id)) → (id : BlockId) → EscOf y v id → ⊥

@@ -26,7 +26,7 @@ use Rattle.shared_heap.specs.Words.{is_past, is_other}
 use Rattle.autozone.specs.declared.plain.zone.Own.{Own}
 use Rattle.autozone.specs.declared.plain.zone.Plain.{Plain}
 use Rattle.autozone.specs.StandsFor.{StandsFor, seen}
-use Rattle.autozone.proofs.Changes.{SamePart, SameHold}
+use Rattle.autozone.proofs.Changes.{SamePart, SameHold, heap_shows}
 use Rattle.autozone.proofs.Escaping.{value_escaped, some_need}
 use Rattle.autozone.proofs.Moving.{got_escaped, escape_at}
 use Rattle.autozone.proofs.Naming.{own_not_escaped}
@@ -48,16 +48,7 @@ shown_or_was m l v q b h = go (loc_cmp q l) refl (sym (get-shown m l v q) ∙ h)
 pub shows : (p n : Plain) (z : State) (l : WeakLoc) (v : Option BlockId) → StandsFor p z → SamePart p n → SameHold p n → Stands n.heap (with_weak z l v) → n.heap.room ≡ [] → ((id : BlockId) → v ≡ Some id → IsTrue (is_escaped z id))
     → ((a : BlockId) (at : ℕ) → weak.Word a at ≡ l → IsTrue (is_escaped z a)) → StandsFor n (with_weak z l v)
 shows p n z l v s c held stands room known placed = record {
-  shows = record {
-    heap = stands;
-    options = s.shows.options ∙ sym c.options;
-    blocks = λ q. s.shows.blocks q ∙ ap (λ m. option_map seen (tree.get id_cmp m q)) (sym c.blocks);
-    registers = rw c.thread (held (z.registers p.thread) s.shows.registers);
-    serials = rw c.thread (s.shows.serials ∙ sym c.serials);
-    fresh = λ k h. rw c.thread (s.shows.fresh k (omega (arith, h, c.serials)));
-    own = rw c.thread (s.shows.own ∙ sym c.own);
-    running = rw c.thread s.shows.running;
-  };
+  shows = heap_shows p n z _ s.shows c held record { options = refl; blocks = refl; registers = refl; serials = refl; ended = refl } stands;
   sound = rw c.thread record {
     made = s.sound.made;
     filled = s.sound.filled;
@@ -97,11 +88,6 @@ turned z need a v b w ea ev tells c = (
   λ h. elim ((tells c).0 h) [ inl e ↦ inr (subst (λ o. EscOf z o c) ea e) | inr e ↦ inl (subst (λ o. EscOf z o c) ev e) ],
   λ n. (tells c).1 (elim n [ inl e ↦ inr (subst (λ o. EscOf z o c) (sym ev) e) | inr e ↦ inl (subst (λ o. EscOf z o c) (sym ea) e) ]),
 )
-
--- what is shown has escaped
-pub second_out : (p : Plain) (z : State) (need : BlockId → Bool) (first v : Option BlockId) (from : ℕ) → StandsFor p z → z.registers p.thread from ≡ v → Tells need (λ c. EscOf z first c ⊎ EscOf z v c) → IfSome v (λ id. IsTrue (is_escaped (with_escaped z need) id))
-second_out p z need first None from s holds tells = tt
-second_out p z need first (Some id) from s holds tells = value_escaped z need first (Some id) id tells (inr refl) (s.sound.registers from id holds)
 
 -- a call names the same words after an escape
 word_still : (z : State) (need : BlockId → Bool) (t reg at : ℕ) (k : Class) → word_in (with_escaped z need) t reg at k ≡ word_in z t reg at k

@@ -24,13 +24,13 @@ pub fn read_weak(plain: &mut Plain, to: Reg, loc: Loc) -> Result<Reply, NoMemory
     ensures thread { plain.new.thread ≡ plain.old.thread }
 {
     match loc {
-        Loc::Root(root) => read_root(plain, to, root),
-        Loc::Word(from, at) => read_word(plain, to, from, at),
+        Loc::Root(root) => read_weak_root(plain, to, root),
+        Loc::Word(from, at) => read_weak_word(plain, to, from, at),
     }
 }
 
 /// The same of a weak root.
-fn read_root(plain: &mut Plain, to: Reg, root: WeakNo) -> Result<Reply, NoMemory>
+fn read_weak_root(plain: &mut Plain, to: Reg, root: WeakNo) -> Result<Reply, NoMemory>
     ensures ok { IfOk result (λ reply. Stepped plain.old plain.new (call.ReadWeak to (loc.Root root)) reply) }
     ensures err { OnErr result (Kept plain.old plain.new) }
     ensures thread { plain.new.thread ≡ plain.old.thread }
@@ -41,7 +41,7 @@ fn read_root(plain: &mut Plain, to: Reg, root: WeakNo) -> Result<Reply, NoMemory
 }
 
 /// The same of a word of the block that `from` holds.
-fn read_word(plain: &mut Plain, to: Reg, from: Reg, at: u32) -> Result<Reply, NoMemory>
+fn read_weak_word(plain: &mut Plain, to: Reg, from: Reg, at: u32) -> Result<Reply, NoMemory>
     requires { IsReal plain.old }
     ensures ok { IfOk result (λ reply. Stepped plain.old plain.new (call.ReadWeak to (loc.Word from at)) reply) }
     ensures err { OnErr result (Kept plain.old plain.new) }
@@ -95,13 +95,13 @@ pub fn set_weak(alloc: Global, plain: &mut Plain, loc: Loc, from: Reg) -> Result
     ensures thread { plain.new.thread ≡ plain.old.thread }
 {
     match loc {
-        Loc::Root(root) => set_root(alloc, plain, root, from),
-        Loc::Word(into, at) => set_word(alloc, plain, into, at, from),
+        Loc::Root(root) => set_weak_root(alloc, plain, root, from),
+        Loc::Word(into, at) => set_weak_word(alloc, plain, into, at, from),
     }
 }
 
 /// The same of a weak root.
-fn set_root(alloc: Global, plain: &mut Plain, root: WeakNo, from: Reg) -> Result<Reply, NoMemory>
+fn set_weak_root(alloc: Global, plain: &mut Plain, root: WeakNo, from: Reg) -> Result<Reply, NoMemory>
     requires { IsReal plain.old }
     ensures ok { IfOk result (λ reply. Stepped plain.old plain.new (call.SetWeak (loc.Root root) from) reply) }
     ensures err { OnErr result (Kept plain.old plain.new) }
@@ -121,7 +121,7 @@ fn set_root(alloc: Global, plain: &mut Plain, root: WeakNo, from: Reg) -> Result
 }
 
 /// The same of a word of the block that `into` holds.
-fn set_word(
+fn set_weak_word(
     alloc: Global,
     plain: &mut Plain,
     into: Reg,

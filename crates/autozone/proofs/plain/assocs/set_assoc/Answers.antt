@@ -5,10 +5,10 @@ use Rattle.zone_model.specs.declared.entry.Reply.TheVariants as reply
 use Rattle.zone_model.specs.State.{with_assoc}
 use Rattle.zone_model.specs.Escape.{with_escaped}
 use Rattle.autozone.specs.StandsFor.{StandsFor}
-use Rattle.autozone.proofs.Associations.{assoc_set, second_out, assoc_tells, assoc_need, assoc_null, assoc_full, assoc_quiet, assoc_does}
+use Rattle.autozone.proofs.Associations.{assoc_set, assoc_tells, assoc_need, assoc_null, assoc_full, assoc_quiet, assoc_does}
 use Rattle.autozone.proofs.Escaping.{sound_heap}
 use Rattle.autozone.proofs.Leading.{refused}
-use Rattle.autozone.proofs.Publishing.{full_if, fits_if, first_out, published, known_out}
+use Rattle.autozone.proofs.Publishing.{full_if, fits_if, first_out, second_out, published, known_out}
 use Rattle.autozone.proofs.Shared.{all_in_heap}
 use Rattle.autozone.proofs.plain.assocs.set_assoc.Goals as goal
 

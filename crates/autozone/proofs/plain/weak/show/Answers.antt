@@ -12,9 +12,9 @@ use Rattle.shared_heap.specs.Weak.{after_assign}
 use Rattle.autozone.specs.StandsFor.{StandsFor}
 use Rattle.autozone.proofs.Escaping.{sound_heap}
 use Rattle.autozone.proofs.Leading.{refused}
-use Rattle.autozone.proofs.Publishing.{first_none, full_if, fits_if, first_out, none_more, nothing_full, published_or, known_out}
+use Rattle.autozone.proofs.Publishing.{first_none, full_if, fits_if, first_out, second_out, none_more, nothing_full, published_or, known_out}
 use Rattle.autozone.proofs.Shared.{in_heap, all_in_heap}
-use Rattle.autozone.proofs.WeakLocations.{shows, turned, second_out, three_still, placed_in}
+use Rattle.autozone.proofs.WeakLocations.{shows, turned, three_still, placed_in}
 use Rattle.autozone.proofs.plain.weak.show.Goals as goal
 
 pub returns-then-not-branch-clause-ok : goal.returns-then-not-branch-clause-ok

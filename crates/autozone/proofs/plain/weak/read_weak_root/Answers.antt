@@ -2,7 +2,7 @@ use Rattle.std.proofs.Common.{None, refl, sym, ap, ◌∙◌}
 use Rattle.zone_model.specs.declared.call.Loc.TheVariants as loc
 use Rattle.autozone.proofs.Answered.{heard, read_room}
 use Rattle.autozone.proofs.Changes.{escaped_there}
-use Rattle.autozone.proofs.plain.weak.read_root.Goals as goal
+use Rattle.autozone.proofs.plain.weak.read_weak_root.Goals as goal
 
 pub returns-clause-ok : goal.returns-clause-ok
 returns-clause-ok c = λ z s.

@@ -10,10 +10,10 @@ use Rattle.shared_heap.specs.Weak.{after_assign}
 use Rattle.autozone.specs.StandsFor.{StandsFor}
 use Rattle.autozone.proofs.Escaping.{sound_heap}
 use Rattle.autozone.proofs.Leading.{refused}
-use Rattle.autozone.proofs.Publishing.{full_if, fits_if, none_more, nothing_full, published_or, known_out}
+use Rattle.autozone.proofs.Publishing.{full_if, fits_if, second_out, none_more, nothing_full, published_or, known_out}
 use Rattle.autozone.proofs.Shared.{all_in_heap}
-use Rattle.autozone.proofs.WeakLocations.{shows, turned, second_out}
-use Rattle.autozone.proofs.plain.weak.set_root.Goals as goal
+use Rattle.autozone.proofs.WeakLocations.{shows, turned}
+use Rattle.autozone.proofs.plain.weak.set_weak_root.Goals as goal
 
 pub returns-then-not-branch-clause-ok : goal.returns-then-not-branch-clause-ok
 returns-then-not-branch-clause-ok c = λ z s.
