@@ -223,34 +223,50 @@ fn are(list: &IdList, serials: &[u32]) -> bool {
             .all(|(id, serial)| id.serial == *serial)
 }
 
+/// A pass over these condemned blocks.
+fn pass_over(alloc: Global, condemned: Condemned) -> Result<Pass, NoMemory> {
+    let room = IdList::with_room(alloc, condemned.ids.len())?;
+    Ok(Pass::new(condemned, room))
+}
+
+/// The finalisers of so many blocks: the actions of each, and the blocks that the words of each refer to.
+fn finals_of(alloc: Global, rows: &[&[Action]], words: &[u32]) -> Result<SmallFinals, Fail> {
+    let thread = first_thread()?;
+    let mut actions = Vec::with_capacity(alloc, rows.len())?;
+    for row in rows {
+        actions.push(ActionList::from_slice(row).ok_or("at most two actions")?)?;
+    }
+    let done = vec![in alloc; false; actions.len()]?;
+    Ok(SmallFinals {
+        thread,
+        roots: vec![in alloc; None; 256]?,
+        actions,
+        words: ids(alloc, thread, words)?,
+        done,
+    })
+}
+
+/// A full cycle, in slices of one scan, over a graph of old blocks.
+fn full_cycle(alloc: Global, rows: &[&[u32]], anchors: &[u32]) -> Result<CycleEnd, Fail> {
+    let mut graph = graph_of(alloc, rows, anchors, &[], 0)?;
+    Ok(run_cycle(alloc, &mut graph, Mode::Full, 1)?)
+}
+
 #[test]
 fn condemns_the_white_blocks(rt: HostRuntime) -> Result<(), Fail> {
-    let alloc = rt.alloc();
-    let mut graph = graph_of(alloc, &[&[1], &[], &[]], &[0], &[], 0)?;
-    let end = run_cycle(alloc, &mut graph, Mode::Full, 1)?;
-    assert_eq!(rt; end.more, 1, "a slice of one scan, and a second one");
-    assert!(rt; are(&end.condemned.ids, &[2]), "the third block");
-
-    let mut graph = graph_of(alloc, &[], &[], &[], 0)?;
-    let end = run_cycle(alloc, &mut graph, Mode::Full, 1)?;
-    assert_eq!(rt; end.more, 0, "an empty graph");
-    assert!(rt; are(&end.condemned.ids, &[]), "an empty graph");
-
-    let mut graph = graph_of(alloc, &[&[0], &[1]], &[0], &[], 0)?;
-    let end = run_cycle(alloc, &mut graph, Mode::Full, 1)?;
-    assert_eq!(rt; end.more, 0, "blocks that refer to themselves");
-    assert!(rt;
-        are(&end.condemned.ids, &[1]),
-        "blocks that refer to themselves"
-    );
-
-    let mut graph = graph_of(alloc, &[&[7, 1], &[9]], &[0, 8], &[], 0)?;
-    let end = run_cycle(alloc, &mut graph, Mode::Full, 1)?;
-    assert_eq!(rt; end.more, 1, "edges and anchors that weren't there");
-    assert!(rt;
-        are(&end.condemned.ids, &[]),
-        "edges and anchors that weren't there"
-    );
+    let cases: [(&[&[u32]], &[u32], u32, &[u32]); 4] = [
+        (&[&[1], &[], &[]], &[0], 1, &[2]),
+        (&[], &[], 0, &[]),
+        // Blocks that refer to themselves.
+        (&[&[0], &[1]], &[0], 0, &[1]),
+        // Edges and anchors that aren't there.
+        (&[&[7, 1], &[9]], &[0, 8], 1, &[]),
+    ];
+    for (rows, anchors, more, condemned) in &cases {
+        let end = full_cycle(rt.alloc(), rows, anchors)?;
+        assert_eq!(rt; end.more, *more);
+        assert!(rt; are(&end.condemned.ids, condemned));
+    }
     Ok(())
 }
 
@@ -342,25 +358,10 @@ fn finalised_blocks_are_kept_with_what_they_reach(rt: HostRuntime) -> Result<(),
     let mut graph = graph_of(alloc, &[&[], &[2], &[], &[], &[]], &[], &[], 0)?;
     let end = run_cycle(alloc, &mut graph, Mode::Full, 10)?;
     assert!(rt; are(&end.condemned.ids, &[0, 1, 2, 3, 4]));
-    let keep = ActionList::from_slice(&[Action::Keep(RootNo(6)), Action::Keep(RootNo(5))]).ok_or(
-        "two actions",
-    )?;
-    let pass_on = ActionList::from_slice(&[Action::Pass(RootNo(6), 0)]).ok_or("one action")?;
-    let mut actions = Vec::with_capacity(alloc, 5)?;
-    actions.push(ActionList::new())?;
-    actions.push(keep)?;
-    actions.push(ActionList::new())?;
-    actions.push(pass_on)?;
-    actions.push(ActionList::new())?;
-    let mut finals = SmallFinals {
-        thread,
-        roots: vec![in alloc; None; 256]?,
-        actions,
-        words: ids(alloc, thread, &[0])?,
-        done: vec![in alloc; false; 5]?,
-    };
-    let room = IdList::with_room(alloc, end.condemned.ids.len())?;
-    let mut pass = Pass::new(end.condemned, room);
+    let keeps = [Action::Keep(RootNo(6)), Action::Keep(RootNo(5))];
+    let passes = [Action::Pass(RootNo(6), 0)];
+    let mut finals = finals_of(alloc, &[&[], &keeps, &[], &passes, &[]], &[0])?;
+    let mut pass = pass_over(alloc, end.condemned)?;
     assert_eq!(rt; finalise(&mut pass, &mut finals), 2);
     assert_eq!(rt;
         finals.roots.get(5).copied(),
@@ -386,8 +387,7 @@ fn a_dead_block_outside_keeps_what_it_refers_to(rt: HostRuntime) -> Result<(), F
     let mut graph = graph_of(alloc, &[&[], &[2], &[], &[]], &[0], &[], 0)?;
     let end = run_cycle(alloc, &mut graph, Mode::Full, 10)?;
     assert!(rt; are(&end.condemned.ids, &[1, 2, 3]));
-    let room = IdList::with_room(alloc, end.condemned.ids.len())?;
-    let pass = Pass::new(end.condemned, room);
+    let pass = pass_over(alloc, end.condemned)?;
     graph.set_anchors(Vec::new(alloc));
     graph.store(BlockId { thread, serial: 0 }, BlockId { thread, serial: 1 })?;
     let settled = settle(&mut graph, pass);
@@ -402,8 +402,7 @@ fn ids_that_are_no_blocks_are_not_settled(rt: HostRuntime) -> Result<(), Fail> {
     let mut graph = graph_of(alloc, &[&[], &[], &[], &[], &[]], &[0], &[], 0)?;
     let end = run_cycle(alloc, &mut graph, Mode::Full, 10)?;
     assert!(rt; are(&end.condemned.ids, &[1, 2, 3, 4]));
-    let room = IdList::with_room(alloc, end.condemned.ids.len())?;
-    let pass = Pass::new(end.condemned, room);
+    let pass = pass_over(alloc, end.condemned)?;
     let mut smaller = graph_of(alloc, &[&[2], &[], &[]], &[], &[], 0)?;
     let settled = settle(&mut smaller, pass);
     assert!(rt; are(&settled.kept, &[2]), "what block 0 refers to");
@@ -417,20 +416,12 @@ fn a_pass_goes_on_where_it_is(rt: HostRuntime) -> Result<(), Fail> {
     let thread = first_thread()?;
     let mut graph = graph_of(alloc, &[&[], &[]], &[], &[], 0)?;
     let end = run_cycle(alloc, &mut graph, Mode::Full, 10)?;
-    let one = ActionList::from_slice(&[Action::Keep(RootNo(1))]).ok_or("one action")?;
-    let two = ActionList::from_slice(&[Action::Keep(RootNo(2))]).ok_or("one action")?;
-    let mut actions = Vec::with_capacity(alloc, 2)?;
-    actions.push(one)?;
-    actions.push(two)?;
-    let mut finals = SmallFinals {
-        thread,
-        roots: vec![in alloc; None; 256]?,
-        actions,
-        words: Vec::new(alloc),
-        done: vec![in alloc; false; 2]?,
-    };
-    let room = IdList::with_room(alloc, end.condemned.ids.len())?;
-    let mut pass = Pass::new(end.condemned, room);
+    let mut finals = finals_of(
+        alloc,
+        &[&[Action::Keep(RootNo(1))], &[Action::Keep(RootNo(2))]],
+        &[],
+    )?;
+    let mut pass = pass_over(alloc, end.condemned)?;
     let first = pass.next(&finals);
     assert_eq!(rt; first, Some(BlockId { thread, serial: 0 }));
     assert_eq!(rt; pass.next(&finals), first, "asking changes nothing");
