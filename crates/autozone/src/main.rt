@@ -9,6 +9,7 @@ use az_outside::{StdSink, StdSource};
 use saying::say;
 use status::Status;
 use std::env;
+use std::io::ErrorKind;
 use std::process::ExitCode;
 use top::autozone;
 
@@ -19,11 +20,13 @@ mod status;
 mod text;
 mod top;
 
-/// The words after the program's name.
+/// The words after the program's name, or none where one of them isn't UTF-8, since none are no command either.
 fn words(rt: &HostRuntime) -> Result<Vec<String>, NoMemory> {
     let mut words = Vec::new(rt.alloc());
-    let Ok(args) = env::args(rt) else {
-        return Err(NoMemory);
+    let args = match env::args(rt) {
+        Ok(args) => args,
+        Err(error) if error.kind() == ErrorKind::OutOfMemory => return Err(NoMemory),
+        Err(_) => return Ok(words),
     };
     for word in args.skip(1) {
         if words.push(word).is_err() {

@@ -101,7 +101,12 @@ pub fn set_weak(alloc: Global, plain: &mut Plain, loc: Loc, from: Reg) -> Result
 }
 
 /// The same of a weak root.
-fn set_weak_root(alloc: Global, plain: &mut Plain, root: WeakNo, from: Reg) -> Result<Reply, NoMemory>
+fn set_weak_root(
+    alloc: Global,
+    plain: &mut Plain,
+    root: WeakNo,
+    from: Reg,
+) -> Result<Reply, NoMemory>
     requires { IsReal plain.old }
     ensures ok { IfOk result (λ reply. Stepped plain.old plain.new (call.SetWeak (loc.Root root) from) reply) }
     ensures err { OnErr result (Kept plain.old plain.new) }
