@@ -1,15 +1,8 @@
-use Rattle.std.proofs.Common.{◌≡◌, ◌<◌, ℕ, zero, suc, Option, Some, None, replicate, slice_get, refl, arith}
+use Rattle.std.proofs.Common.{Option, None, replicate, sym}
+use Rattle.std.proofs.lemmas.List.{get_or-replicate, length-replicate}
+use Rattle.std.proofs.lemmas.Option.{slice_get_read}
 use Rattle.az_base.specs.declared.block_id.BlockId.{BlockId}
 use Rattle.autozone.proofs.plain.registers.Registers.new.Goals as goal
 
-null : Option BlockId
-null = None
-
-all_null : (n r : ℕ) → r < n → slice_get (replicate n null) r ≡ Some null
-all_null zero r h = absurd (omega arith)
-all_null (suc n) zero h = refl
-all_null (suc n) (suc r) h = all_null n r (omega arith)
-
 pub returns : goal.returns
-unfolding null
-returns c = all_null 16
+returns c = λ r h. let null : Option BlockId = None in slice_get_read (replicate 16 null) 16 r null (sym (length-replicate 16 null)) h (sym (get_or-replicate 16 r null null h))
