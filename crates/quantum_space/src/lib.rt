@@ -14,5 +14,5 @@ mod shade;
 
 pub use admin::Admin;
 pub use graph::Graph;
-pub use place::Place;
+pub use place::{Place, places_are_ordered_by_subzone};
 pub use shade::Shade;
