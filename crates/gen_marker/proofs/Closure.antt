@@ -7,10 +7,9 @@ use Rattle.quantum_space.specs.declared.shade.Shade.TheVariants as shade
 use Rattle.quantum_space.specs.Shapes.{Shape, Shades, Has, anchors}
 use Rattle.gen_marker.specs.Marking.{Shut, NoGrey, Spreads, Begun, Enlivens, Finishes, Starts, Source, Among, in_scope}
 use Rattle.gen_marker.specs.Marking as marking
-use Rattle.gen_marker.specs.Closure.{Marked, MarkedIn, FirstFor, OfDark, GoesOn}
-use Rattle.zone_model.specs.Reach.{Path, Edge, ReachedFrom, AnchoredFor}
+use Rattle.gen_marker.specs.Closure.{Marked, MarkedIn, OfDark, GoesOn}
+use Rattle.zone_model.specs.Reach.{Path, Edge, Anchors, AnchoredFor}
 use Rattle.zone_model.specs.State.{State}
-use Rattle.az_base.specs.declared.action.Mode.TheVariants as mode
 use Rattle.quantum_space.proofs.Lists.{has_or_not, same_or_not}
 use Rattle.gen_marker.proofs.Marks.{white_or_not}
 
@@ -75,8 +74,4 @@ never_dark s f P dark b h n = elim (white_or_not (f b)) [ inl w ↦ w | inr d �
 
 -- no block is white that is anchored in the state
 pub anchored_dark : (z : State) (m : Mode) (s : Shape) (f : Shades) → MarkedIn z m s f → (b : BlockId) → Has s.blocks b → IsTrue (in_scope m s b) → AnchoredFor m z b → f b ≢ shade.White
-anchored_dark z m s f k b hb sb r = let x = from_first m r in white_unanchored m s f (Edge z) (FirstFor m z) k x.0 (inl x.1) x.2.0 b x.2.1 hb sb
-  where
-    from_first : (m : Mode) → AnchoredFor m z b → ReachedFrom z (FirstFor m z) b
-    from_first mode.Full r = r
-    from_first mode.Young r = r
+anchored_dark z m s f k b hb sb r = white_unanchored m s f (Edge z) (Anchors m z) k r.0 (inl r.1) r.2.0 b r.2.1 hb sb

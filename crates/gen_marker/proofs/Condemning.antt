@@ -10,10 +10,10 @@ use Rattle.quantum_space.specs.declared.shade.Shade.TheVariants as shade
 use Rattle.quantum_space.specs.Shapes.{Shape, Shades, Has}
 use Rattle.quantum_space.proofs.Lists.{has_among, among_has, has_filter, filter_has}
 use Rattle.zone_model.specs.State.{State, Cycle}
-use Rattle.zone_model.specs.Reach.{Edge, IsHeld}
+use Rattle.zone_model.specs.Reach.{Edge, Anchors, IsHeld}
 use Rattle.zone_model.specs.Collection.{MayCondemn, WasAnchored}
 use Rattle.gen_marker.specs.Marking.{in_scope, is_left, is_white}
-use Rattle.gen_marker.specs.Closure.{FirstFor, MarkedIn, OfDark, ShowsCycle}
+use Rattle.gen_marker.specs.Closure.{MarkedIn, OfDark, ShowsCycle}
 use Rattle.gen_marker.proofs.Closure.{dark_edge, never_dark}
 
 white_test : (f : Shade) → is_white f ≡ true → f ≡ shade.White
@@ -26,7 +26,7 @@ both true y e = (refl, e)
 both false y e = cc
 
 -- what is held anchors in either mode
-held_first : (z : State) (m : Mode) (a : BlockId) → IsHeld z a → FirstFor m z a
+held_first : (z : State) (m : Mode) (a : BlockId) → IsHeld z a → Anchors m z a
 held_first z mode.Full a h = inl h
 held_first z mode.Young a h = inl h
 
@@ -53,7 +53,7 @@ module _ (z : State) (c : Cycle) (s : Shape) (f : Shades) (shows : ShowsCycle z 
     scope = λ b t. (let l = left_of b t in shows.scope b l.block ∙ l.scope);
     not_held = λ b t held. (let l = left_of b t in marked.first b (held_first z c.mode b held) l.block l.scope l.white);
     closed = λ a b out t edge. (let l = left_of b t in
-        dark_edge c.mode s f (Edge z) (FirstFor c.mode z) marked a b (λ h scope white. (let i = of_left a h white scope in let e : true ≡ false = sym i ∙ out in cc)) edge l.block l.scope l.white);
+        dark_edge c.mode s f (Edge z) (Anchors c.mode z) marked a b (λ h scope white. (let i = of_left a h white scope in let e : true ≡ false = sym i ∙ out in cc)) edge l.block l.scope l.white);
     complete = λ b start scope never. (let h = (shows.start b).0 start in
-        of_left b h (never_dark s f (WasAnchored c) reached b h never) (sym (shows.scope b h) ∙ scope));
+        of_left b h (never_dark s f (WasAnchored c) reached b h (λ was. never (start, was))) (sym (shows.scope b h) ∙ scope));
   }

@@ -2,11 +2,10 @@
 use Rattle.std.specs.Prelude.{◌≡◌, ◌≢◌, ◌⊎◌, ◌↔◌, IsTrue, IsFalse}
 use Rattle.az_base.specs.declared.block_id.BlockId.{BlockId}
 use Rattle.az_base.specs.declared.action.Mode.{Mode}
-use Rattle.az_base.specs.declared.action.Mode.TheVariants as mode
 use Rattle.quantum_space.specs.declared.shade.Shade.TheVariants as shade
 use Rattle.quantum_space.specs.Shapes.{Shape, Shades, Has, edges}
-use Rattle.zone_model.specs.State.{State, Cycle, is_unescaped}
-use Rattle.zone_model.specs.Reach.{Edge, IsHeld, is_old}
+use Rattle.zone_model.specs.State.{State, Cycle}
+use Rattle.zone_model.specs.Reach.{Edge, Anchors}
 use Rattle.zone_model.specs.Reach as reach
 use Rattle.std.specs.List.Sorted.{IsStrictlySortedBy}
 use Rattle.az_base.specs.Ids.{id_cmp}
@@ -39,14 +38,9 @@ OfDark s f P = (b : BlockId) → Has s.blocks b → f b ≢ shade.White → P b
 abbrev pub GoesOn : Shape → (BlockId → Type 0) → Type 0
 GoesOn s P = (a b : BlockId) → Has s.blocks b → P a → Has (edges s a) b → P b
 
--- a collection of this mode takes it that the block anchors: it is held or unescaped, or, for mode young, old
-abbrev pub FirstFor : Mode → State → BlockId → Type 0
-FirstFor mode.Full z a = IsHeld z a ⊎ IsTrue (is_unescaped z a)
-FirstFor mode.Young z a = IsHeld z a ⊎ (IsTrue (is_unescaped z a) ⊎ IsTrue (is_old z a))
-
 -- a graph at the end of marking, beside a state
 abbrev pub MarkedIn : State → Mode → Shape → Shades → Type 0
-MarkedIn z m s f = Marked m s f (Edge z) (FirstFor m z)
+MarkedIn z m s f = Marked m s f (Edge z) (Anchors m z)
 
 -- the graph has the blocks of an open cycle's start, and their ages
 pub record ShowsCycle (z : State) (c : Cycle) (s : Shape) : Type 0 where

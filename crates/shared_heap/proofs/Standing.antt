@@ -18,7 +18,7 @@ use Rattle.zone_model.specs.State.{State, Block, moment, with_edit, with_root, w
 use Rattle.zone_model.specs.Escape.{with_escaped}
 use Rattle.zone_model.specs.Effect.{new_block, with_new}
 use Rattle.zone_model.specs.Quanta.{is_born_escaped}
-use Rattle.zone_model.specs.Step.{seen_now, with_seen}
+use Rattle.zone_model.specs.Step.{seen_now, with_moment}
 use Rattle.shared_heap.specs.Holds.{Holds}
 use Rattle.shared_heap.specs.Stored.{Kept}
 use Rattle.shared_heap.specs.Shared.{Shared, new_heap, rooted, written, newly, with_birth, admitted, holding_more}
@@ -47,7 +47,7 @@ pub holds_stand : (h : Shared) (z : State) (m : FinMap id_cmp Holds) → Stands 
 holds_stand h z m s = record { options = s.options; blocks = s.blocks; roots = s.roots; counts = s.counts; assocs = s.assocs; weak = s.weak; cycle = s.cycle }
 
 pub seen_stands : (h : Shared) (z : State) → Stands h z → Stands h (seen_now z)
-seen_stands h z s = record { options = s.options; blocks = s.blocks; roots = s.roots; counts = s.counts; assocs = s.assocs; weak = s.weak; cycle = ap (option_map (with_seen (moment z))) s.cycle }
+seen_stands h z s = record { options = s.options; blocks = s.blocks; roots = s.roots; counts = s.counts; assocs = s.assocs; weak = s.weak; cycle = ap (option_map (with_moment (moment z))) s.cycle }
 
 pub register_stands : (h : Shared) (z : State) (t r : ℕ) (v : Option BlockId) → Stands h z → Stands h (with_register z t r v)
 register_stands h z t r v s = record { options = s.options; blocks = s.blocks; roots = s.roots; counts = s.counts; assocs = s.assocs; weak = s.weak; cycle = s.cycle }

@@ -23,7 +23,7 @@ use Rattle.zone_model.specs.Misuses.{misuse_of}
 use Rattle.block_layouts.specs.declared.layout.Layout.{Layout}
 use Rattle.zone_model.specs.Collection.{MayCondemn, Reclaims, with_action, actions_of}
 use Rattle.zone_model.specs.Effect.{Effect, weak_loc, new_block, with_new}
-use Rattle.zone_model.specs.Step.{Step, Happens, seen_now, with_seen}
+use Rattle.zone_model.specs.Step.{Step, Happens, seen_now, with_moment}
 use Rattle.zone_model.specs.History.{Run}
 
 -- the block is there
@@ -194,9 +194,9 @@ effect_grows z t call.Reclaim (reply.Settled gone kept) a h = subst (Grows z) (s
 effect_grows z t call.Leave (reply.Reclaimed gone) a h = subst (Grows z) (sym h.does) (grows_less z _ refl (left_there z.blocks gone.list) (λ b is. inr is))
 effect_grows z t _ _ a h = absurd h
 
-seen_by : (m : Moment) (c : Option Cycle) (b : BlockId) → is_of (option_map (with_seen m) c) b ≡ is_of c b
+seen_by : (m : Moment) (c : Option Cycle) (b : BlockId) → is_of (option_map (with_moment m) c) b ≡ is_of c b
 seen_by m None b = refl
-seen_by m (Some c) b = elim (is_some c.condemned) as (λ s. is_of (Some (cond s c (record c { seen = m ∷ c.seen }))) b ≡ is_of (Some c) b) [ true ↦ refl | false ↦ refl ]
+seen_by m (Some c) b = elim (is_some c.condemned) as (λ s. is_of (Some (cond s c (record c { moments = m ∷ c.moments }))) b ≡ is_of (Some c) b) [ true ↦ refl | false ↦ refl ]
 
 seen_grows : (z a : State) → Grows z a → Grows z (seen_now a)
 seen_grows z a g = record { serials = g.serials; there = g.there; cycle = λ b is. g.cycle b (sym (seen_by (moment a) a.cycle b) ∙ is) }

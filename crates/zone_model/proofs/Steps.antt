@@ -11,7 +11,7 @@ use Rattle.zone_model.specs.Maps.{get-map_values}
 use Rattle.zone_model.specs.State.{State, moment}
 use Rattle.zone_model.specs.Escape.{Need, Tells, with_escaped}
 use Rattle.zone_model.specs.Misuses.{misuse_of}
-use Rattle.zone_model.specs.Step.{Step, Happens, seen_now, with_seen}
+use Rattle.zone_model.specs.Step.{Step, Happens, seen_now, with_moment}
 
 mapped_to_itself : {X : Type 0} (o : Option X) → option_map (λ x. x) o ≡ o
 mapped_to_itself None = refl
@@ -60,4 +60,4 @@ plain_happens z e after step none right =
 
 -- where no cycle is open, none sees the state
 pub unseen : (z : State) → z.cycle ≡ None → seen_now z ≡ z
-unseen z none = ap (λ c. record z { cycle = c }) (ap (option_map (with_seen (moment z))) none ∙ sym none)
+unseen z none = ap (λ c. record z { cycle = c }) (ap (option_map (with_moment (moment z))) none ∙ sym none)

@@ -34,7 +34,7 @@ HasCondemned z t r = (c : Cycle) × HasCycle z t c × (c.condemned ≡ Some r)
 
 -- a cycle of the thread as it opens
 abbrev pub new_cycle : State → ℕ → Mode → Cycle
-new_cycle z t mode = record { owner = t; mode = mode; start = is_escaped z; seen = []; condemned = None }
+new_cycle z t mode = record { owner = t; mode = mode; start = is_escaped z; moments = []; condemned = None }
 
 -- Begin: no cycle is open, and one of the thread opens, with the escaped blocks as its start
 abbrev pub Begins : State → ℕ → Mode → State → Type 0
@@ -42,7 +42,11 @@ Begins z t mode after = (z.cycle ≡ None) × (after ≡ with_cycle z (Some (new
 
 -- the block was anchored in some state since Begin
 abbrev pub WasAnchored : Cycle → BlockId → Type 0
-WasAnchored c b = Any (λ m. AnchoredFor c.mode m b) c.seen
+WasAnchored c b = Any (λ m. AnchoredFor c.mode m b) c.moments
+
+-- the block is reached: it is of the start, and was anchored since Begin
+abbrev pub IsReached : Cycle → BlockId → Type 0
+IsReached c b = IsTrue (c.start b) × WasAnchored c b
 
 -- what a cycle may condemn
 pub record MayCondemn (z : State) (c : Cycle) (r : List BlockId) : Type 0 where
@@ -54,7 +58,7 @@ pub record MayCondemn (z : State) (c : Cycle) (r : List BlockId) : Type 0 where
   pub not_held : (b : BlockId) → IsTrue (among r b) → ¬ IsHeld z b
   pub closed : (a b : BlockId) → IsFalse (among r a) → IsTrue (among r b) → ¬ Edge z a b
   -- (c) each block of the start, for mode young each young one, is reached or in it
-  pub complete : (b : BlockId) → IsTrue (c.start b) → IsTrue (in_scope c.mode z b) → ¬ WasAnchored c b → IsTrue (among r b)
+  pub complete : (b : BlockId) → IsTrue (c.start b) → IsTrue (in_scope c.mode z b) → ¬ IsReached c b → IsTrue (among r b)
 
 -- the weak location shows one of these blocks
 abbrev pub shows_one : List BlockId → Option BlockId → Bool

@@ -132,16 +132,16 @@ part_after p call.Leave (reply.Reclaimed gone) = record p { registers = λ r. No
 part_after p _ _ = p
 
 -- the part after one entry, from the part, the call and the reply alone: it stays after a misuse or Busy; else the blocks of Need leave it, and then the call changes it
-abbrev pub Own : Part → Call → Reply → Part → Type 0
-Own p call (reply.Misuse m) after = after ≡ p
-Own p call reply.Busy after = after ≡ p
-Own p call reply after = (need : BlockId → Bool) × Tells need (NeedWithin p call) × (after ≡ part_after (leave_part p need) call reply)
+abbrev pub PartStep : Part → Call → Reply → Part → Type 0
+PartStep p call (reply.Misuse m) after = after ≡ p
+PartStep p call reply.Busy after = after ≡ p
+PartStep p call reply after = (need : BlockId → Bool) × Tells need (NeedWithin p call) × (after ≡ part_after (leave_part p need) call reply)
 
 -- the parts that a list of entries leads through
-abbrev pub OwnRun : Part → List Entry → Part → Type 0
-OwnRun p [] last = last ≡ p
-OwnRun p (e ∷ es) last = (mid : Part) × Own p e.call e.reply mid × OwnRun mid es last
+abbrev pub PartRun : Part → List Entry → Part → Type 0
+PartRun p [] last = last ≡ p
+PartRun p (e ∷ es) last = (mid : Part) × PartStep p e.call e.reply mid × PartRun mid es last
 
 -- the part after a thread's entries, from the opening part
 abbrev pub Solo : Options → List Entry → Part → Type 0
-Solo o es last = OwnRun (opening_part o) es last
+Solo o es last = PartRun (opening_part o) es last

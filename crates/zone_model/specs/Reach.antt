@@ -50,10 +50,6 @@ IsHeld z a = InRegister z a ⊎ (InRoot z a ⊎ (0 < count_of z a))
 abbrev pub Live : {C : Type 0} → Zone C → BlockId → Type 0
 Live z = ReachedFrom z (IsHeld z)
 
--- a block is anchored where it is reached from a block that is held or unescaped
-abbrev pub Anchored : {C : Type 0} → Zone C → BlockId → Type 0
-Anchored z = ReachedFrom z (λ a. IsHeld z a ⊎ IsTrue (is_unescaped z a))
-
 -- the age of a block that escaped when there had been so many Reclaims: those since then, at most 3
 abbrev pub age : {C : Type 0} → Zone C → ℕ → ℕ
 age z since = min (z.reclaims - since) 3
@@ -66,14 +62,14 @@ is_old z id = option_map_or (λ since. age z since == 3) (since_of z id) false
 abbrev pub is_young : {C : Type 0} → Zone C → BlockId → Bool
 is_young z id = option_map_or (λ since. nat_lt (age z since) 3) (since_of z id) false
 
--- a block is young anchored where it is reached from a block that is held, unescaped or old
-abbrev pub YoungAnchored : {C : Type 0} → Zone C → BlockId → Type 0
-YoungAnchored z = ReachedFrom z (λ a. IsHeld z a ⊎ (IsTrue (is_unescaped z a) ⊎ IsTrue (is_old z a)))
+-- the blocks that anchor for a collection of this mode: those that are held or unescaped, and for a young one the old ones, too
+abbrev pub Anchors : {C : Type 0} → Mode → Zone C → BlockId → Type 0
+Anchors mode.Full z a = IsHeld z a ⊎ IsTrue (is_unescaped z a)
+Anchors mode.Young z a = IsHeld z a ⊎ (IsTrue (is_unescaped z a) ⊎ IsTrue (is_old z a))
 
--- what anchors a block for a collection of this mode
+-- a block is anchored where it is reached from a block that anchors
 abbrev pub AnchoredFor : {C : Type 0} → Mode → Zone C → BlockId → Type 0
-AnchoredFor mode.Full z = Anchored z
-AnchoredFor mode.Young z = YoungAnchored z
+AnchoredFor mode z = ReachedFrom z (Anchors mode z)
 
 -- a collection of this mode may take the block: a full one any, a young one a young block
 abbrev pub in_scope : {C : Type 0} → Mode → Zone C → BlockId → Bool

@@ -54,8 +54,8 @@ pub record Cycle : Type 0 where
   pub mode : Mode
   -- the blocks that were escaped when it began
   pub start : BlockId → Bool
-  -- what the zone was in each state since, until it condemned
-  pub seen : List Moment
+  -- what the zone was in each state since, until it condemned, the last one first
+  pub moments : List Moment
   -- the condemned blocks, ascending, once there are any
   pub condemned : Option (List BlockId)
 

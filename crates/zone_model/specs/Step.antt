@@ -14,12 +14,12 @@ use Rattle.zone_model.specs.Collection.{IsBusy}
 use Rattle.zone_model.specs.Effect.{Effect}
 
 -- a cycle that isn't condemned has seen this moment, too
-abbrev pub with_seen : Moment → Cycle → Cycle
-with_seen m c = if is_some c.condemned then c else record c { seen = m ∷ c.seen }
+abbrev pub with_moment : Moment → Cycle → Cycle
+with_moment m c = if is_some c.condemned then c else record c { moments = m ∷ c.moments }
 
 -- the open cycle has seen this state
 abbrev pub seen_now : State → State
-seen_now z = record z { cycle = option_map (with_seen (moment z)) z.cycle }
+seen_now z = record z { cycle = option_map (with_moment (moment z)) z.cycle }
 
 -- a call that finds another thread's cycle open
 abbrev pub FindsBusy : State → ℕ → Call → Type 0
