@@ -11,6 +11,11 @@ pub mod Effect
 pub mod Step
 pub mod History
 pub mod Part
+pub mod LocalSteps
+pub mod SameShared
+pub mod Waits
+pub mod Sound
+pub mod Laws
 pub mod WeakShows
 pub mod Bare
 pub mod Worked

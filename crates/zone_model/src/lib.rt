@@ -22,7 +22,10 @@ pub use act::Act;
 pub use call::{Call, Loc};
 pub use entry::{Entry, Reply, Stats};
 pub use laws::{
-    first_history_is_legal, first_history_must_reclaim, histories_end_once, steps_are_determined,
+    cycles_stay_while_others_step, edges_stay_among_the_reached, first_history_is_legal,
+    first_history_must_reclaim, histories_end_once, local_calls_leave_what_is_shared,
+    local_calls_need_their_part_alone, parts_are_told_by_entries, states_are_sound,
+    steps_are_determined, waiting_entries_are_steps, waiting_entries_of_all_threads_are_steps,
     weak_locations_show_what_was_assigned, weak_locations_stay_without_collections,
     weak_root_shows_the_last_assignment,
 };

@@ -1,5 +1,5 @@
 use Rattle.zone_model.proofs.WeakHistory.{cleared, cleared_ends, shows_block, shows_null, shows_block_no_longer}
-use Rattle.zone_model.proofs.laws.weak_root_shows_the_last_assignment.Goals as goal
+use Rattle.zone_model.proofs.laws.weak.weak_root_shows_the_last_assignment.Goals as goal
 
 pub returns-clause-legal : goal.returns-clause-legal
 returns-clause-legal c = (cleared, cleared_ends)

@@ -1,5 +1,5 @@
 use Rattle.zone_model.proofs.FirstHistory as first
-use Rattle.zone_model.proofs.laws.first_history_must_reclaim.Goals as goal
+use Rattle.zone_model.proofs.laws.histories.first_history_must_reclaim.Goals as goal
 
 pub returns : goal.returns
 returns c = first.first_history_must_reclaim
