@@ -22,6 +22,3 @@ mod holders;
 mod stored;
 
 pub use heap::Heap;
-
-#[cfg(test)]
-mod tests;
