@@ -13,3 +13,4 @@ pub mod Births
 pub mod Retained
 pub mod Assocs
 pub mod Weak
+pub mod Agreeing

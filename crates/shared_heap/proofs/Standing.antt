@@ -1,5 +1,5 @@
 -- How changes of a heap are changes of the states for which it stands
-use Rattle.std.proofs.Common.{◌≡◌, ℕ, ◌-◌, ◌<◌, ◌==◌, Bool, true, false, cond, List, [], ◌∷◌, Option, Some, None, min, length, replicate, slice_get, slice_set, zero, suc, refl, sym, ap, ◌∙◌, arith}
+use Rattle.std.proofs.Common.{◌≡◌, ℕ, ◌-◌, ◌<◌, ◌==◌, Bool, true, false, cond, List, [], ◌∷◌, Option, Some, None, get_or, min, length, replicate, slice_set, zero, suc, refl, sym, ap, ◌∙◌, arith}
 use Rattle.std.proofs.lemmas.Bool.Decides.{nat_tests}
 use Rattle.std.specs.Option.{option_map, option_map_or}
 use Rattle.std.specs.declared.cmp.Ordering.{Ordering}
@@ -26,16 +26,16 @@ use Rattle.shared_heap.specs.Stands.{Stands, kept_of, escaped_view}
 use Rattle.shared_heap.specs.Steps.{IsUnescaped}
 use Rattle.shared_heap.proofs.Tables.{turned}
 
-nulls : (n g : ℕ) → g < n → slice_get (replicate n (let o : Option BlockId = None in o)) g ≡ Some None
-nulls zero g h = absurd (omega arith)
-nulls (suc n) zero h = refl
-nulls (suc n) (suc g) h = nulls n g (omega arith)
+nulls : (n g : ℕ) → get_or (replicate n (let o : Option BlockId = None in o)) g None ≡ None
+nulls zero g = refl
+nulls (suc n) zero = refl
+nulls (suc n) (suc g) = nulls n g
 
 pub opening_stands : (o : Options) → Stands (new_heap o) (opening o)
 opening_stands o = record {
   options = refl;
   blocks = λ q. get-empty id_cmp q ∙ sym (ap (escaped_view 0) (get-empty id_cmp q));
-  roots = λ g l. nulls 256 g l;
+  roots = nulls 256;
   counts = refl;
   assocs = refl;
   weak = refl;
@@ -63,27 +63,23 @@ one_less : (i j : ℕ) → (i == j) ≡ (suc i == suc j)
 one_less i j = grind (arith, nat_tests)
 
 -- a list after a write
-pub get_set : {X : Type 0} (xs : List X) (i j : ℕ) (v : X) → i < length xs → slice_get (slice_set xs i v) j ≡ cond (i == j) (Some v) (slice_get xs j)
-get_set [] i j v h = absurd (omega arith)
-get_set (x ∷ xs) zero zero v h = refl
-get_set (x ∷ xs) zero (suc j) v h = ap (λ t. cond t (Some v) (slice_get xs j)) (unequal 0 (suc j) (λ e. omega arith))
-get_set (x ∷ xs) (suc i) zero v h = ap (λ t. cond t (Some v) (Some x)) (unequal (suc i) 0 (λ e. omega arith))
-get_set (x ∷ xs) (suc i) (suc j) v h = get_set xs i j v (omega arith) ∙ ap (λ t. cond t (Some v) (slice_get xs j)) (one_less i j)
+get_set : {X : Type 0} (xs : List X) (i j : ℕ) (v none : X) → i < length xs → get_or (slice_set xs i v) j none ≡ cond (i == j) v (get_or xs j none)
+get_set [] i j v none h = absurd (omega arith)
+get_set (x ∷ xs) zero zero v none h = refl
+get_set (x ∷ xs) zero (suc j) v none h = ap (λ t. cond t v (get_or xs j none)) (unequal 0 (suc j) (λ e. omega arith))
+get_set (x ∷ xs) (suc i) zero v none h = ap (λ t. cond t v x) (unequal (suc i) 0 (λ e. omega arith))
+get_set (x ∷ xs) (suc i) (suc j) v none h = get_set xs i j v none (omega arith) ∙ ap (λ t. cond t v (get_or xs j none)) (one_less i j)
 
 pub root_stands : (h : Shared) (z : State) (g : ℕ) (v : Option BlockId) → length h.roots ≡ 256 → g < 256 → Stands h z → Stands (rooted h g v) (with_root z g v)
 root_stands h z g v all l s = record {
   options = s.options;
   blocks = s.blocks;
-  roots = λ k lk. get_set h.roots g k v (omega arith) ∙ ap (cond (g == k) (Some v)) (s.roots k lk) ∙ joined k (g == k);
+  roots = λ k. get_set h.roots g k v None (omega arith) ∙ ap (cond (g == k) v) (s.roots k);
   counts = s.counts;
   assocs = s.assocs;
   weak = s.weak;
   cycle = s.cycle;
 }
-  where
-    joined : (k : ℕ) (t : Bool) → cond t (Some v) (Some (z.roots k)) ≡ Some (cond t v (z.roots k))
-    joined k true = refl
-    joined k false = refl
 
 -- a map after an edit
 pub edit_get : {X : Type 0} (m : FinMap id_cmp X) (id : BlockId) (f : X → X) (q : BlockId) → get (with_edit m id f) q ≡ cond (same_id q id) (option_map f (get m q)) (get m q)

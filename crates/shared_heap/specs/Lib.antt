@@ -12,3 +12,4 @@ pub mod Steps
 pub mod Retained
 pub mod Assocs
 pub mod Weak
+pub mod Holding

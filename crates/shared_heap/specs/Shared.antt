@@ -1,5 +1,5 @@
 -- What a heap holds
-use Rattle.std.specs.Prelude.{◌≡◌, ℕ, ◌+◌, List, [], Option, Some, None, false, slice_set, drop, replicate}
+use Rattle.std.specs.Prelude.{◌≡◌, ℕ, ◌+◌, List, [], Option, Some, None, false, slice_set, drop, replicate, get_or}
 use Rattle.std.specs.Option.{option_map_or}
 use Rattle.std.specs.FinMap.{FinMap, get, insert, empty, len}
 use Rattle.az_base.specs.declared.action.Action.{Action}
@@ -34,6 +34,10 @@ pub record Shared : Type 0 where
   pub ready : Ready
   -- the lengths of the blocks for which there is room, next first
   pub room : List ℕ
+
+-- what the root holds: null past the last one
+abbrev pub root_in : Shared → ℕ → Option BlockId
+root_in h g = get_or h.roots g None
 
 -- how often the thread holds the block
 abbrev pub held : Shared → ℕ → BlockId → ℕ

@@ -1,11 +1,11 @@
 -- Which states a heap stands for
-use Rattle.std.specs.Prelude.{◌≡◌, ◌<◌, ◌-◌, ℕ, min, Option, None, Some, IsTrue, option_map, option_and_then, slice_get}
+use Rattle.std.specs.Prelude.{◌≡◌, ◌-◌, ℕ, min, Option, None, Some, IsTrue, option_map, option_and_then}
 use Rattle.std.specs.FinMap.{get}
 use Rattle.az_base.specs.declared.block_id.BlockId.{BlockId}
 use Rattle.zone_model.specs.State.{State, Block, is_escaped}
 use Rattle.zone_model.specs.Reach.{Edge}
 use Rattle.shared_heap.specs.Stored.{Kept}
-use Rattle.shared_heap.specs.Shared.{Shared}
+use Rattle.shared_heap.specs.Shared.{Shared, root_in}
 
 -- what the heap keeps of a block, where it has escaped and there were so many Reclaims
 abbrev pub kept_of : ℕ → Block → Option Kept
@@ -19,7 +19,7 @@ escaped_view reclaims o = option_and_then (kept_of reclaims) o
 pub record Stands (h : Shared) (z : State) : Type 0 where
   pub options : z.options ≡ h.options
   pub blocks : (q : BlockId) → get h.blocks q ≡ escaped_view z.reclaims (get z.blocks q)
-  pub roots : (g : ℕ) → g < 256 → slice_get h.roots g ≡ Some (z.roots g)
+  pub roots : (g : ℕ) → root_in h g ≡ z.roots g
   pub counts : z.counts ≡ h.counts
   pub assocs : z.assocs ≡ h.assocs
   pub weak : z.weak ≡ h.weak

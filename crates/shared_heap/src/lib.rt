@@ -19,6 +19,8 @@
 mod blocks;
 mod heap;
 mod holders;
+mod laws;
 mod stored;
 
 pub use heap::Heap;
+pub use laws::{reads_count_what_they_replace_once_more, what_is_said_agrees};

@@ -6,6 +6,7 @@ ghost use Rattle.az_base.specs.Ids.{same_id};
 ghost use Rattle.block_layouts.specs.Layouts.{len_of, quanta};
 ghost use Rattle.zone_model.specs.State.{State};
 ghost use Rattle.zone_model.specs.Escape.{with_escaped};
+ghost use Rattle.shared_heap.specs.Holding.{HoldsSet};
 ghost use Rattle.shared_heap.specs.Shared.{held, used_by, holding, admitted, IsFresh};
 ghost use Rattle.shared_heap.specs.Stands.{Stands};
 ghost use Rattle.shared_heap.specs.Steps.{IsUnescaped};
@@ -69,7 +70,7 @@ impl Heap {
     pub fn hold_count(&mut self, t: ThreadNo, id: BlockId, n: u32) -> Result<(), NoMemory>
         requires given { IsSome (get self.old.blocks id) }
         ensures ok { OnOk result (self.new ≡ holding self.old t id n) }
-        ensures held { OnOk result ((u : ℕ) (q : BlockId) → held self.new u q ≡ (if (t == u) && same_id id q then n else held self.old u q)) }
+        ensures held { OnOk result (HoldsSet self.old self.new t id n) }
         ensures stands { (z : State) → Stands self.old z → Stands self.new z }
         ensures err { OnErr result (self.new ≡ self.old) }
         ensures sure { (n ≡ 0) ⊎ ((0 < held self.old t id) ⊎ IsFresh self.old id) → IsOk result }

@@ -7,6 +7,7 @@ ghost use Rattle.zone_model.specs.State.{State};
 ghost use Rattle.shared_heap.specs.Assocs.{assoc_reply, associated};
 ghost use Rattle.shared_heap.specs.Shared.{held};
 ghost use Rattle.shared_heap.specs.Stands.{Sound};
+ghost use Rattle.shared_heap.specs.Holding.{HoldsMore};
 ghost use Rattle.shared_heap.specs.Steps.{Runs, Stepped, after_read, names};
 
 use crate::heap::Heap;
@@ -51,7 +52,7 @@ impl Heap {
     ) -> Result<Reply, NoMemory>
         ensures reply { IfOk result (λ r. r ≡ assoc_reply self.old object key.0) }
         ensures value { IfOk result (λ r. self.new ≡ after_read self.old t r) }
-        ensures held { IfOk result (λ r. (u : ℕ) (q : BlockId) → IsSome (get self.old.blocks q) → held self.new u q ≡ held self.old u q + (if (t == u) && names r q then 1 else 0)) }
+        ensures held { IfOk result (λ r. HoldsMore self.old self.new t r) }
         ensures step { IfOk result (λ r. (z : State) (to reg : ℕ) → Runs self.old z t → z.registers t reg ≡ object → Stepped self.new z t (call.GetAssoc to reg key) r) }
         ensures err { OnErr result (self.new ≡ self.old) }
     {

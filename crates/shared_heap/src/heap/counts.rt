@@ -7,6 +7,7 @@ ghost use Rattle.zone_model.specs.declared.entry.Reply.TheVariants as reply;
 ghost use Rattle.zone_model.specs.State.{State};
 ghost use Rattle.shared_heap.specs.Shared.{held, used_by};
 ghost use Rattle.shared_heap.specs.Stands.{Sound};
+ghost use Rattle.shared_heap.specs.Holding.{HoldsMore};
 ghost use Rattle.shared_heap.specs.Steps.{Runs, Stepped, after_read, names};
 ghost use Rattle.shared_heap.specs.Retained.{count_at, retain_misuse, release_misuse, count_misuse, take_misuse, after_retain, after_release};
 ghost use Rattle.shared_heap.specs.Words.{reply_or};
@@ -59,7 +60,7 @@ impl Heap {
     pub fn take_held(&mut self, t: ThreadNo, id: BlockId) -> Result<Reply, NoMemory>
         ensures reply { IfOk result (λ r. r ≡ reply_or (take_misuse self.old id) (reply.Block (Some id))) }
         ensures value { IfOk result (λ r. self.new ≡ after_read self.old t r) }
-        ensures held { IfOk result (λ r. (u : ℕ) (q : BlockId) → IsSome (get self.old.blocks q) → held self.new u q ≡ held self.old u q + (if (t == u) && names r q then 1 else 0)) }
+        ensures held { IfOk result (λ r. HoldsMore self.old self.new t r) }
         ensures step { IfOk result (λ r. (z : State) (to : ℕ) → Runs self.old z t → Stepped self.new z t (call.Take to id) r) }
         ensures err { OnErr result (self.new ≡ self.old) }
     {

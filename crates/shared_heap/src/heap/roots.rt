@@ -5,8 +5,9 @@ ghost use Rattle.az_base.specs.declared.block_id.BlockId.{BlockId};
 ghost use Rattle.zone_model.specs.declared.call.Call.TheVariants as call;
 ghost use Rattle.zone_model.specs.declared.entry.Reply.TheVariants as reply;
 ghost use Rattle.zone_model.specs.State.{State};
-ghost use Rattle.shared_heap.specs.Shared.{held, rooted, holding_more};
+ghost use Rattle.shared_heap.specs.Shared.{root_in, rooted, holding_more};
 ghost use Rattle.shared_heap.specs.Stands.{Sound};
+ghost use Rattle.shared_heap.specs.Holding.{HoldsMore};
 ghost use Rattle.shared_heap.specs.Steps.{Runs, Stepped, after_read, names};
 
 use crate::heap::Heap;
@@ -28,9 +29,9 @@ impl Heap {
     /// Reads a root into a register of the thread: the thread holds what it gets once more. NoMemory too where it holds
     /// that 4,294,967,295 times. O(1) expected, and O(threads that hold the block).
     pub fn get_root(&mut self, t: ThreadNo, root: RootNo) -> Result<Reply, NoMemory>
-        ensures reply { IfOk result (λ r. r ≡ reply.Block (get_or self.old.roots root.0 None)) }
+        ensures reply { IfOk result (λ r. r ≡ reply.Block (root_in self.old root.0)) }
         ensures value { IfOk result (λ r. self.new ≡ after_read self.old t r) }
-        ensures held { IfOk result (λ r. (u : ℕ) (q : BlockId) → IsSome (get self.old.blocks q) → held self.new u q ≡ held self.old u q + (if (t == u) && names r q then 1 else 0)) }
+        ensures held { IfOk result (λ r. HoldsMore self.old self.new t r) }
         ensures step { IfOk result (λ r. (z : State) (to : ℕ) → Runs self.old z t → Stepped self.new z t (call.GetRoot to root) r) }
         ensures err { OnErr result (self.new ≡ self.old) }
     {
@@ -42,7 +43,7 @@ impl Heap {
     /// The thread holds the block, if there is one, once more; NoMemory too where its number is used up.
     pub(crate) fn hold_more(&mut self, t: ThreadNo, value: &Option<BlockId>) -> Result<(), NoMemory>
         ensures ok { OnOk result (self.new ≡ holding_more self.old t value.now) }
-        ensures held { OnOk result ((u : ℕ) (q : BlockId) → IsSome (get self.old.blocks q) → held self.new u q ≡ held self.old u q + (if (t == u) && names (reply.Block value.now) q then 1 else 0)) }
+        ensures held { OnOk result (HoldsMore self.old self.new t (reply.Block value.now)) }
         ensures err { OnErr result (self.new ≡ self.old) }
     {
         let Some(id) = value else {

@@ -9,6 +9,7 @@ ghost use Rattle.zone_model.specs.Effect.{weak_loc};
 ghost use Rattle.zone_model.specs.State.{State};
 ghost use Rattle.shared_heap.specs.Shared.{held, used_by};
 ghost use Rattle.shared_heap.specs.Stands.{Sound};
+ghost use Rattle.shared_heap.specs.Holding.{HoldsMore};
 ghost use Rattle.shared_heap.specs.Steps.{Runs, Stepped, after_read, names};
 ghost use Rattle.shared_heap.specs.Weak.{IsPlaced, loc_misuse, showing, after_assign};
 ghost use Rattle.shared_heap.specs.Words.{reply_or};
@@ -52,7 +53,7 @@ impl Heap {
         requires given { IsPlaced self.old loc }
         ensures reply { IfOk result (λ r. r ≡ reply_or (loc_misuse self.old loc) (reply.Block (get self.old.weak loc))) }
         ensures value { IfOk result (λ r. self.new ≡ after_read self.old t r) }
-        ensures held { IfOk result (λ r. (u : ℕ) (q : BlockId) → IsSome (get self.old.blocks q) → held self.new u q ≡ held self.old u q + (if (t == u) && names r q then 1 else 0)) }
+        ensures held { IfOk result (λ r. HoldsMore self.old self.new t r) }
         ensures step { IfOk result (λ r. (z : State) (to : ℕ) (l : Loc) → Runs self.old z t → weak_loc z t l ≡ Some loc → Stepped self.new z t (call.ReadWeak to l) r) }
         ensures err { OnErr result (self.new ≡ self.old) }
     {

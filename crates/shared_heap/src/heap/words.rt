@@ -10,6 +10,7 @@ ghost use Rattle.zone_model.specs.declared.entry.Reply.TheVariants as reply;
 ghost use Rattle.zone_model.specs.State.{State, reference, referent};
 ghost use Rattle.shared_heap.specs.Shared.{held, used_by};
 ghost use Rattle.shared_heap.specs.Stands.{Stands, Sound};
+ghost use Rattle.shared_heap.specs.Holding.{HoldsMore};
 ghost use Rattle.shared_heap.specs.Steps.{Runs, Stepped, NeedsWord, first_three, after_read, after_write, names};
 ghost use Rattle.shared_heap.specs.Whole.{Suits};
 ghost use Rattle.shared_heap.specs.Words.{word_misuse, word_in, class_in, Finds, number_in, reply_or};
@@ -80,7 +81,7 @@ impl Heap {
         requires given { IfSome from (λ b. IsSome (get self.old.blocks b)) }
         ensures reply { IfOk result (λ r. r ≡ reply_or (word_misuse self.old from at class.Strong) (reply.Block (referent (word_in self.old from at)))) }
         ensures value { IfOk result (λ r. self.new ≡ after_read self.old t r) }
-        ensures held { IfOk result (λ r. (u : ℕ) (q : BlockId) → IsSome (get self.old.blocks q) → held self.new u q ≡ held self.old u q + (if (t == u) && names r q then 1 else 0)) }
+        ensures held { IfOk result (λ r. HoldsMore self.old self.new t r) }
         ensures step { IfOk result (λ r. (z : State) (to reg : ℕ) → Runs self.old z t → z.registers t reg ≡ from → Stepped self.new z t (call.Load to reg at) r) }
         ensures err { OnErr result (self.new ≡ self.old) }
     {

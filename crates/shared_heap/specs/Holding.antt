@@ -1,0 +1,95 @@
+-- When a heap's table of holds is that of a state
+-- A thread holds an escaped block by its registers and by the words of its unescaped blocks, of which the heap knows
+-- nothing. The heap is told the numbers, so its table may lag behind the state: here is how far.
+use Rattle.std.specs.Prelude.{◌≡◌, ◌+◌, ◌==◌, ◌&&◌, ℕ, zero, suc, Bool, false, List, [], ◌∷◌, Option, Some, None, IsTrue, IsFalse, IsSome, if◌then◌else◌, count_by}
+use Rattle.std.specs.List.{list_any}
+use Rattle.std.specs.FinMap.{get}
+use Rattle.az_base.specs.declared.block_id.BlockId.{BlockId}
+use Rattle.az_base.specs.declared.word.Word.{Word}
+use Rattle.az_base.specs.declared.word.Word.TheVariants as word
+use Rattle.az_base.specs.Ids.{same_id}
+use Rattle.zone_model.specs.declared.call.Call.{Call}
+use Rattle.zone_model.specs.declared.call.Call.TheVariants as call
+use Rattle.zone_model.specs.declared.entry.Reply.{Reply}
+use Rattle.zone_model.specs.declared.entry.Reply.TheVariants as reply
+use Rattle.zone_model.specs.Maps.{total}
+use Rattle.zone_model.specs.Part.{Part, part_of}
+use Rattle.zone_model.specs.State.{State, is_escaped}
+use Rattle.shared_heap.specs.Shared.{Shared, held}
+use Rattle.shared_heap.specs.Steps.{names}
+
+-- the word refers to the block
+abbrev pub refers_to : BlockId → Word → Bool
+refers_to q (word.Block b) = same_id b q
+refers_to q _ = false
+
+-- this is the block
+abbrev pub is_block : BlockId → Option BlockId → Bool
+is_block q (Some b) = same_id b q
+is_block q None = false
+
+-- in how many of the words the block stands
+abbrev pub times_in : BlockId → List Word → ℕ
+times_in q words = count_by (refers_to q) words
+
+-- in how many of the first n registers the block stands
+abbrev pub registers_with : ℕ → (ℕ → Option BlockId) → BlockId → ℕ
+registers_with zero registers q = 0
+registers_with (suc n) registers q = registers_with n registers q + (if is_block q (registers n) then 1 else 0)
+
+-- how often a thread's part holds the block: in its sixteen registers, and in the words of its unescaped blocks
+abbrev pub holds_of : Part → BlockId → ℕ
+holds_of p q = registers_with 16 p.registers q + total (λ id b. times_in q b.words) p.blocks
+
+-- the thread and the block are one of these pairs
+abbrev pub is_off : List (ℕ × BlockId) → ℕ → BlockId → Bool
+is_off off t q = list_any (λ (pair : ℕ × BlockId). (pair.0 == t) && same_id pair.1 q) off
+
+-- each thread holds each escaped block as often as the table says
+abbrev pub HoldsAgree : Shared → State → Type 0
+HoldsAgree h z = (t : ℕ) (q : BlockId) → IsTrue (is_escaped z q) → held h t q ≡ holds_of (part_of z t) q
+
+-- the same, but for these threads and blocks
+abbrev pub HoldsAgreeBut : List (ℕ × BlockId) → Shared → State → Type 0
+HoldsAgreeBut off h z = (t : ℕ) (q : BlockId) → IsTrue (is_escaped z q) → IsFalse (is_off off t q) → held h t q ≡ holds_of (part_of z t) q
+
+-- the thread holds the block that it got, if it was one, once more than before, and all else is held as before
+abbrev pub HoldsMore : Shared → Shared → ℕ → Reply → Type 0
+HoldsMore old new t r = (u : ℕ) (q : BlockId) → IsSome (get old.blocks q) → held new u q ≡ held old u q + (if (t == u) && names r q then 1 else 0)
+
+-- the thread holds the block so often, and all else is held as before
+abbrev pub HoldsSet : Shared → Shared → ℕ → BlockId → ℕ → Type 0
+HoldsSet old new t id n = (u : ℕ) (q : BlockId) → held new u q ≡ (if (t == u) && same_id id q then n else held old u q)
+
+-- the block that a register of the thread held before, if it was one, is counted once more
+abbrev pub HoldsOnceMore : Shared → State → ℕ → Option BlockId → Type 0
+HoldsOnceMore h z t before = (u : ℕ) (q : BlockId) → IsTrue (is_escaped z q) → held h u q ≡ holds_of (part_of z u) q + (if (t == u) && is_block q before then 1 else 0)
+
+-- the block that has just escaped counts as not held, and what its words hold as often as when its thread held it by them
+abbrev pub HoldsAsBefore : Shared → State → BlockId → List Word → Type 0
+HoldsAsBefore h z id words = (u : ℕ) (q : BlockId) → IsTrue (is_escaped z q) → held h u q ≡ (if same_id id q then 0 else holds_of (part_of z u) q + (if id.thread == u then times_in q words else 0))
+
+-- the call reads a block into this register
+abbrev pub ReadsTo : Call → ℕ → Type 0
+ReadsTo (call.Load to from at) r = to ≡ r
+ReadsTo (call.GetRoot to root) r = to ≡ r
+ReadsTo (call.Take to id) r = to ≡ r
+ReadsTo (call.GetAssoc to object key) r = to ≡ r
+ReadsTo (call.ReadWeak to loc) r = to ≡ r
+ReadsTo _ r = ⊥
+
+-- what a register held before a reply went to it
+abbrev pub replaced : Reply → Option BlockId → Option BlockId
+replaced (reply.Block v) before = before
+replaced _ before = None
+
+-- the pair of the thread and the block, if there is one
+abbrev pub pair_of : ℕ → Option BlockId → List (ℕ × BlockId)
+pair_of t None = []
+pair_of t (Some id) = (t, id) ∷ []
+
+-- the pairs of the thread with each block in the words
+abbrev pub pairs_in : ℕ → List Word → List (ℕ × BlockId)
+pairs_in t [] = []
+pairs_in t (word.Block b ∷ words) = (t, b) ∷ pairs_in t words
+pairs_in t (w ∷ words) = pairs_in t words
