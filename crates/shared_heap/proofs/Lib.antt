@@ -14,3 +14,4 @@ pub mod Retained
 pub mod Assocs
 pub mod Weak
 pub mod Agreeing
+pub mod Alike

@@ -4,11 +4,18 @@ ghost use Rattle.az_base.specs.declared.block_id.BlockId.{BlockId};
 ghost use Rattle.zone_model.specs.declared.call.Call.{Call};
 ghost use Rattle.zone_model.specs.declared.entry.Reply.{Reply};
 ghost use Rattle.zone_model.specs.Part.{part_of};
+ghost use Rattle.zone_model.specs.SameShared.{SameShared};
 ghost use Rattle.zone_model.specs.State.{State};
 ghost use Rattle.zone_model.specs.Step.{Step};
 ghost use Rattle.shared_heap.specs.Holding.{holds_of, HoldsAgree, HoldsAgreeBut, HoldsMore, HoldsSet, HoldsOnceMore, ReadsTo, replaced};
 ghost use Rattle.shared_heap.specs.Shared.{Shared};
 ghost use Rattle.shared_heap.specs.Stands.{Stands};
+
+/// A heap that stands for a state stands for each that is alike in what is shared: so what a thread does to its own
+/// registers and unescaped blocks leaves the heap as it is, also where an open cycle has seen it.
+pub fn what_is_shared_alike_is_stood_for_alike()
+    ensures { (h : Shared) (z after : State) → Stands h z → SameShared z after → Stands h after }
+{}
 
 /// A call that reads a block into a register counts the block that the register held before once more, for the thread,
 /// and all else agrees.

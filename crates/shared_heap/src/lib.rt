@@ -23,4 +23,7 @@ mod laws;
 mod stored;
 
 pub use heap::Heap;
-pub use laws::{reads_count_what_they_replace_once_more, what_is_said_agrees};
+pub use laws::{
+    reads_count_what_they_replace_once_more, what_is_said_agrees,
+    what_is_shared_alike_is_stood_for_alike,
+};
