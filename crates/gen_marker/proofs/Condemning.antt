@@ -1,10 +1,10 @@
 -- What a finish leaves may be condemned
-use Rattle.std.proofs.Common.{◌≡◌, ◌&&◌, Bool, true, false, refl, sym, ap, ◌∙◌, inl, IsTrue, filter}
-use Rattle.std.proofs.lemmas.List.Kept.{IsStrictlySortedBy-filter}
+use Rattle.std.proofs.Common.{◌≡◌, ◌&&◌, Bool, true, false, List, refl, sym, ap, ◌∙◌, inl, IsTrue, filter}
+use Rattle.std.specs.List.Sorted.{IsStrictlySortedBy}
 use Rattle.az_base.specs.declared.block_id.BlockId.{BlockId}
 use Rattle.az_base.specs.declared.action.Mode.{Mode}
 use Rattle.az_base.specs.declared.action.Mode.TheVariants as mode
-use Rattle.az_base.specs.Ids.{among}
+use Rattle.az_base.specs.Ids.{id_cmp, among}
 use Rattle.quantum_space.specs.declared.shade.Shade.{Shade}
 use Rattle.quantum_space.specs.declared.shade.Shade.TheVariants as shade
 use Rattle.quantum_space.specs.Shapes.{Shape, Shades, Has}
@@ -30,25 +30,26 @@ held_first : (z : State) (m : Mode) (a : BlockId) → IsHeld z a → Anchors m z
 held_first z mode.Full a h = inl h
 held_first z mode.Young a h = inl h
 
-module _ (z : State) (c : Cycle) (s : Shape) (f : Shades) (shows : ShowsCycle z c s) (marked : MarkedIn z c.mode s f) (reached : OfDark s f (WasAnchored c)) where
+module _ (z : State) (c : Cycle) (s : Shape) (f : Shades) (shows : ShowsCycle z c s) (marked : MarkedIn z c.mode s f) (reached : OfDark s f (WasAnchored c)) (r : List BlockId) (sorted : IsStrictlySortedBy id_cmp r) (same : (b : BlockId) → among r b ≡ among (filter (is_left c.mode s f) s.blocks) b) where
   -- a block of the list is a white block of the graph, in scope
   record Left (b : BlockId) : Type 0 where
     pub block : Has s.blocks b
     pub white : f b ≡ shade.White
     pub scope : IsTrue (in_scope c.mode s b)
 
-  left_of : (b : BlockId) → IsTrue (among (filter (is_left c.mode s f) s.blocks) b) → Left b
-  left_of b t =
+  left_of : (b : BlockId) → IsTrue (among r b) → Left b
+  left_of b i =
+      let t = sym (same b) ∙ i in
       let h = has_filter (is_left c.mode s f) s.blocks b (among_has (filter (is_left c.mode s f) s.blocks) b t) in
       let p = both (is_white (f b)) (in_scope c.mode s b) h.1 in
       record { block = h.0; white = white_test (f b) p.0; scope = p.1 }
 
-  of_left : (b : BlockId) → Has s.blocks b → f b ≡ shade.White → IsTrue (in_scope c.mode s b) → IsTrue (among (filter (is_left c.mode s f) s.blocks) b)
-  of_left b h w t = has_among (filter (is_left c.mode s f) s.blocks) b (filter_has (is_left c.mode s f) s.blocks b h (ap (λ x. is_white x && in_scope c.mode s b) w ∙ t))
+  of_left : (b : BlockId) → Has s.blocks b → f b ≡ shade.White → IsTrue (in_scope c.mode s b) → IsTrue (among r b)
+  of_left b h w t = same b ∙ has_among (filter (is_left c.mode s f) s.blocks) b (filter_has (is_left c.mode s f) s.blocks b h (ap (λ x. is_white x && in_scope c.mode s b) w ∙ t))
 
-  pub may_condemn : MayCondemn z c (filter (is_left c.mode s f) s.blocks)
+  pub may_condemn : MayCondemn z c r
   may_condemn = record {
-    ascending = IsStrictlySortedBy-filter _ _ _ shows.ascending;
+    ascending = sorted;
     start = λ b t. (shows.start b).1 (left_of b t).block;
     scope = λ b t. (let l = left_of b t in shows.scope b l.block ∙ l.scope);
     not_held = λ b t held. (let l = left_of b t in marked.first b (held_first z c.mode b held) l.block l.scope l.white);

@@ -5,3 +5,5 @@ pub mod Ends
 pub mod Closure
 pub mod Stores
 pub mod Condemning
+pub mod Visiting
+pub mod Tight

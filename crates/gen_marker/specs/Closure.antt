@@ -7,8 +7,6 @@ use Rattle.quantum_space.specs.Shapes.{Shape, Shades, Has, edges}
 use Rattle.zone_model.specs.State.{State, Cycle}
 use Rattle.zone_model.specs.Reach.{Edge, Anchors}
 use Rattle.zone_model.specs.Reach as reach
-use Rattle.std.specs.List.Sorted.{IsStrictlySortedBy}
-use Rattle.az_base.specs.Ids.{id_cmp}
 use Rattle.gen_marker.specs.Marking.{Shut, NoGrey, in_scope}
 
 -- a graph at the end of marking, beside all edges of a state and the blocks from which it is reached
@@ -44,6 +42,5 @@ MarkedIn z m s f = Marked m s f (Edge z) (Anchors m z)
 
 -- the graph has the blocks of an open cycle's start, and their ages
 pub record ShowsCycle (z : State) (c : Cycle) (s : Shape) : Type 0 where
-  pub ascending : IsStrictlySortedBy id_cmp s.blocks
   pub start : (b : BlockId) → IsTrue (c.start b) ↔ Has s.blocks b
   pub scope : (b : BlockId) → Has s.blocks b → reach.in_scope c.mode z b ≡ in_scope c.mode s b

@@ -1,3 +1,4 @@
 pub mod Marking
 pub mod Progress
 pub mod Closure
+pub mod Tight

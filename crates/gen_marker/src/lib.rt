@@ -11,7 +11,8 @@
 //!    fact along each path of edges, and the white blocks are condemned.
 //!
 //! `Walk` is the mark stack with what it does to a graph, on which the settling of condemned blocks stands too. `Marker`
-//! is one cycle of a collection over it. `laws` says what the shades tell of the blocks that are anchored in a state.
+//! is one cycle of a collection over it. `laws` says what the shades tell of the blocks that are anchored in a state, and
+//! `tightness` what whoever changes the graph meanwhile has to keep.
 #![tactic(auto)]
 
 mod greying;
@@ -19,6 +20,7 @@ mod laws;
 mod marker;
 mod scanning;
 mod shading;
+mod tightness;
 mod walk;
 
 pub use laws::{
@@ -30,4 +32,7 @@ pub use laws::{
 pub use marker::{Condemned, Marker};
 pub use scanning::Progress;
 pub use shading::{shade_all, shade_these};
+pub use tightness::{
+    begun_graphs_are_tight, changes_keep_it_tight, slices_keep_it_tight, tight_graphs_are_shut,
+};
 pub use walk::Walk;

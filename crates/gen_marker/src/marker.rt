@@ -1,7 +1,8 @@
 //! One cycle of marking.
 ghost use Rattle.std.specs.Prelude.{◌≡◌, ◌≤◌, ◌+◌, IfOk, IfErr, filter};
 ghost use Rattle.std.specs.List.Sorted.{IsStrictlySortedBy, IsStrictlySortedBy-prop};
-ghost use Rattle.az_base.specs.Ids.{id_cmp};
+ghost use Rattle.az_base.specs.declared.block_id.BlockId.{BlockId};
+ghost use Rattle.az_base.specs.Ids.{id_cmp, among};
 ghost use Rattle.gen_marker.specs.Marking.{Tracks, Enlivens, Begun, NoGrey, Finishes, is_left, Shut, Spreads, blacks};
 ghost use Rattle.gen_marker.specs.Progress.{Ends};
 ghost use Rattle.quantum_space.specs.Shapes.{OnlyShades};
@@ -53,8 +54,11 @@ impl Marker {
         let Ok(stack) = Vec::with_capacity(alloc, count as usize) else {
             return Err(NoMemory);
         };
+        let Ok(hints) = Vec::with_capacity(alloc, count as usize) else {
+            return Err(NoMemory);
+        };
         shade_all(graph, Shade::White);
-        let mut walk = Walk::over(mode, stack);
+        let mut walk = Walk::with_hints(mode, stack, hints);
         walk.grey_first(graph);
         Ok(Marker { walk })
     }
@@ -93,11 +97,12 @@ impl Marker {
     }
 
     /// Greys the anchors again, scans to the end, and gives the white blocks, for mode young the young ones, ascending.
-    /// It takes no memory.
+    /// It takes no memory. O(blocks and edges), and O(c log c) for c condemned blocks.
     pub fn finish<G: Graph, L: Ledger>(self, graph: &mut G, steps: &mut Steps<L>) -> Condemned
         requires tracks { Tracks self (G.shape graph.old).blocks (G.shades graph.old) }
         requires shut { Shut self.mode (G.shape graph.old) (G.shades graph.old) }
-        ensures ids { result.ids.list ≡ filter (is_left self.mode (G.shape graph.old) (G.shades graph.new)) (G.shape graph.old).blocks }
+        ensures ids { (b : BlockId) → among result.ids.list b ≡ among (filter (is_left self.mode (G.shape graph.old) (G.shades graph.new)) (G.shape graph.old).blocks) b }
+        ensures in_order { IsStrictlySortedBy id_cmp (G.shape graph.old).blocks → result.ids.list ≡ filter (is_left self.mode (G.shape graph.old) (G.shades graph.new)) (G.shape graph.old).blocks }
         ensures shut { Shut self.mode (G.shape graph.new) (G.shades graph.new) }
         ensures no_grey { NoGrey (G.shape graph.new).blocks (G.shades graph.new) }
         ensures finishes { Finishes self.mode (G.shape graph.old) (G.shades graph.old) (G.shades graph.new) }
@@ -107,8 +112,10 @@ impl Marker {
         let Marker { mut walk } = self;
         walk.grey_anchors(graph);
         walk.scan_counted(graph, steps);
+        let mut ids = walk.gather(graph);
+        ids.sort_unstable();
         Condemned {
-            ids: IdList::from_vec(walk.gather(graph)),
+            ids: IdList::from_vec(ids),
         }
     }
 }

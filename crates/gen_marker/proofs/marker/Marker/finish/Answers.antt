@@ -1,10 +1,13 @@
-use Rattle.std.proofs.Common.{◌≡◌, ◌+◌, ◌∙◌, sym, ap, arith, subst}
+use Rattle.std.proofs.Common.{◌≡◌, ◌+◌, ◌∙◌, sym, ap, arith, subst, filter, List}
 use Rattle.std.specs.List.Sorted.{IsStrictlySortedBy}
-use Rattle.std.proofs.lemmas.List.Kept.{IsStrictlySortedBy-filter}
 use Rattle.az_base.specs.declared.action.Mode.{Mode}
-use Rattle.az_base.specs.Ids.{id_cmp}
-use Rattle.quantum_space.specs.Shapes.{Shape, Shades, anchors}
-use Rattle.gen_marker.specs.Marking.{Marking, blacks, Among, Greys, Spreads}
+use Rattle.az_base.specs.Ids.{id_cmp, among}
+use Rattle.az_base.specs.declared.block_id.BlockId.{BlockId}
+use Rattle.quantum_space.specs.Shapes.{Once, Shape, Shades, anchors}
+use Rattle.std.proofs.lemmas.List.Kept.{IsStrictlySortedBy-filter}
+use Rattle.quantum_space.proofs.Lists.{among_has, has_among}
+use Rattle.quantum_space.proofs.Sorting.{sorted_once, sorted_among, once_filter, same_sorted}
+use Rattle.gen_marker.specs.Marking.{Marking, blacks, is_left, Among, Greys, Spreads}
 use Rattle.gen_marker.proofs.Ends.{same_blacks, finishes}
 use Rattle.gen_marker.proofs.marker.Marker.finish.Goals as goal
 
@@ -18,8 +21,8 @@ returns-clause-ticks g c =
 pub invariant_of-result : goal.invariant_of-result
 invariant_of-result g c = record {
   ascending =
-      subst (λ xs. IsStrictlySortedBy id_cmp xs) (sym (c.from_vec.ensures.list ∙ c.gather.ensures))
-      (IsStrictlySortedBy-filter _ _ _ (subst (λ (x : Shape). IsStrictlySortedBy id_cmp x.blocks) (sym (c.scan_counted.ensures.only.shape ∙ c.grey_anchors.ensures.only.shape)) c.requires.tracks.ascending));
+      subst (λ xs. IsStrictlySortedBy id_cmp xs) (sym c.from_vec.ensures.list)
+      (sorted_once c.gather-ids.result.items c.sort_unstable.new.self.items (subst Once (sym c.gather-ids.ensures) (once_filter _ _ c.scan_counted.ensures.tracks.apart)) c.sort_unstable.ensures.permutation c.sort_unstable.ensures.sorted);
 }
 
 pub returns-clause-finishes : goal.returns-clause-finishes
@@ -34,3 +37,26 @@ returns-clause-finishes g c =
     subst (λ (m : Mode). Spreads m s mid new) (c.grey_anchors.ensures.mode ∙ same_mode)
     (subst (λ (x : Shape). Spreads c.grey_anchors.new.self.mode x mid new) c.grey_anchors.ensures.only.shape c.scan_counted.ensures.spreads) in
     finishes _ _ _ _ _ greys spreads
+
+pub returns-clause-ids : goal.returns-clause-ids
+returns-clause-ids g c =
+    let new : Shades = g.G.Graph.shades c.scan_counted.new.graph in
+    let left : List BlockId = c.gather-ids.result.items in
+    let modes : c.scan_counted.new.self.mode ≡ c.args.self.mode = c.scan_counted.ensures.mode ∙ c.grey_anchors.ensures.mode ∙ ap (λ (m : Marking). m.mode) c.self.view_is in
+    let shapes : g.G.Graph.shape c.scan_counted.new.graph ≡ g.G.Graph.shape c.args.graph.now = c.scan_counted.ensures.only.shape ∙ c.grey_anchors.ensures.only.shape in
+    let is : left ≡ filter (is_left c.args.self.mode (g.G.Graph.shape c.args.graph.now) new) (g.G.Graph.shape c.args.graph.now).blocks =
+    subst (λ (x : Shape). left ≡ filter (is_left c.args.self.mode x new) x.blocks) shapes
+    (subst (λ (m : Mode). left ≡ filter (is_left m (g.G.Graph.shape c.scan_counted.new.graph) new) (g.G.Graph.shape c.scan_counted.new.graph).blocks) modes c.gather-ids.ensures) in
+    λ b. ap (λ (l : List BlockId). among l b) c.from_vec.ensures.list ∙ sorted_among left c.sort_unstable.new.self.items c.sort_unstable.ensures.permutation b ∙ ap (λ (l : List BlockId). among l b) is
+
+pub returns-clause-in_order : goal.returns-clause-in_order
+returns-clause-in_order g c = λ ascending.
+    let m : Mode = c.args.self.mode in
+    let s : Shape = g.G.Graph.shape c.args.graph.now in
+    let f : Shades = g.G.Graph.shades c.scan_counted.new.graph in
+    let same = returns-clause-ids g c in
+    let ascending_now : IsStrictlySortedBy id_cmp c.sort_unstable.new.self.items =
+    sorted_once c.gather-ids.result.items c.sort_unstable.new.self.items (subst Once (sym c.gather-ids.ensures) (once_filter _ _ c.scan_counted.ensures.tracks.apart)) c.sort_unstable.ensures.permutation c.sort_unstable.ensures.sorted in
+    same_sorted _ (filter (is_left m s f) s.blocks) (subst (λ xs. IsStrictlySortedBy id_cmp xs) (sym c.from_vec.ensures.list) ascending_now) (IsStrictlySortedBy-filter id_cmp (is_left m s f) s.blocks ascending)
+    (λ b h. among_has (filter (is_left m s f) s.blocks) b (sym (same b) ∙ has_among _ b h))
+    (λ b h. among_has _ b (same b ∙ has_among (filter (is_left m s f) s.blocks) b h))
