@@ -29,11 +29,11 @@ use Rattle.zone_model.specs.Step.{Step, Happens, FindsBusy, seen_now}
 use Rattle.zone_model.specs.Part.{Part, part_of, is_in, is_within, is_local, passes_local, part_after}
 use Rattle.zone_model.proofs.Steps.{step_plain, step_misuse, plain_happens, tells_none}
 use Rattle.zone_model.proofs.Made.{AllMade}
-use Rattle.zone_model.specs.Sound.{Sound}
+use Rattle.zone_model.proofs.Intact.{Intact}
 use Rattle.zone_model.specs.LocalSteps.{LocalStep, Replies, misuse_within, IsFound}
 use Rattle.zone_model.proofs.Blocks.{not_both, own_inside, own_thread}
 use Rattle.zone_model.proofs.Sums.{total_nothing}
-use Rattle.zone_model.proofs.Soundness.{next_free}
+use Rattle.zone_model.proofs.IntactSteps.{next_free}
 use Rattle.zone_model.proofs.PartChanges.{born_in_part}
 use Rattle.zone_model.proofs.PartNeeds.{in_part, part_has, part_path, path_within, not_within}
 use Rattle.zone_model.proofs.PartEffects.{effect_part}
@@ -54,7 +54,7 @@ misuse_at null at class full o = first_of (
     ∷ (full, misuse.ZoneFull)
     ∷ [])
 
-module _ (z : State) (s : Sound z) (t : ℕ) where
+module _ (z : State) (s : Intact z) (t : ℕ) where
   abbrev p : Part
   p = part_of z t
 
@@ -64,7 +64,7 @@ module _ (z : State) (s : Sound z) (t : ℕ) where
   block_same (Some id) h = sym (part_has z t id (sym (in_part z t id) ∙ h))
 
   not_full : is_overfull z (quanta_needed z (λ _. false)) ≡ false
-  not_full = let zero : quanta_needed z (λ _. false) ≡ 0 = total_nothing ids_total exact_ids z.blocks in below (used_quanta z + quanta_needed z (λ _. false)) z.options.heap_quanta (omega (arith, zero, s.fits))
+  not_full = let zero : quanta_needed z (λ _. false) ≡ 0 = total_nothing ids_total exact_ids z.blocks in below (used_quanta z + quanta_needed z (λ _. false)) z.options.heap_quanta (omega (arith, zero, s.used))
     where
       below : (a b : ℕ) → a ≤ b → nat_lt b a ≡ false
       below a b l = grind (arith, nat_tests)
@@ -116,11 +116,11 @@ module _ (z : State) (s : Sound z) (t : ℕ) where
       by_held : IsHeld z live.0 → IsFound p b
       by_held (inl in_register) =
           let u = in_register.0 in
-          let within = path_within z s u live.0 live.2.0 b live.2.1 (s.registers u in_register.1 live.0 in_register.2) (own_inside z t b own) in
+          let within = path_within z s u live.0 live.2.0 b live.2.1 (s.names.registers u in_register.1 live.0 in_register.2) (own_inside z t b own) in
           let same : u ≡ t = sym (own_thread z u b within.1) ∙ own_thread z t b own in
           subst (λ v. IsFound (part_of z v) b) same (in_register.1, live.0, in_register.2, (live.2.0, within.2))
-      by_held (inr (inl in_root)) = escaped_start (s.roots in_root.0 live.0 in_root.1)
-      by_held (inr (inr counted)) = escaped_start (s.counts live.0 counted)
+      by_held (inr (inl in_root)) = escaped_start (s.names.roots in_root.0 live.0 in_root.1)
+      by_held (inr (inr counted)) = escaped_start (s.names.counts live.0 counted)
 
   dead_same : (gone : List BlockId) → Lists gone (λ b. IsTrue (is_in p b) × ¬ IsFound p b) → Lists gone (λ b. IsTrue (is_own z t b) × ¬ Live z b)
   dead_same gone l = (
@@ -204,7 +204,7 @@ plain_refused z e a m step none wrong =
 abbrev Does : Part → Entry → Part → Option Misuse → Type 0
 Does p e after m = MatchOption m (Replies p e.thread e.call e.reply × (after ≡ part_after p e.call e.reply)) (λ m. (e.reply ≡ reply.Misuse m) × (after ≡ p))
 
-module _ (z : State) (s : Sound z) (made : AllMade z) where
+module _ (z : State) (s : Intact z) (made : AllMade z) where
   -- an entry that is local at its thread's part, with its reply there, is a step
   local_is_step : (e : Entry) (after : Part) → LocalStep (part_of z e.thread) e.thread e after → (a : State) × Step z e a × (part_of a e.thread ≡ after)
   local_is_step e after k = by_misuse (misuse_within (part_of z e.thread) e.call) (misuse_same z s e.thread e.call k.local) k.does

@@ -23,7 +23,7 @@ use Rattle.zone_model.specs.Part.{Part, is_in, is_local, part_after, passes_loca
 use Rattle.zone_model.specs.LocalSteps.{LocalStep, Replies, misuse_within}
 use Rattle.zone_model.specs.SameShared.{HoldsRef, GainsNone}
 use Rattle.zone_model.proofs.Blocks.{edit_get, left_get, set_or_was}
-use Rattle.zone_model.proofs.SoundBirths.{no_first_edge}
+use Rattle.zone_model.proofs.IntactBirths.{no_first_edge}
 
 some_id : (a b : BlockId) → Some a ≡ Some b → a ≡ b
 some_id a b h = cc

@@ -118,7 +118,8 @@ option_same : {X : Type 0} (f : X → State) (z : State) → ((x : X) → Same z
 option_same f z same None = (refl, refl, refl)
 option_same f z same (Some x) = same x
 
-actions_same : (b : BlockId) (actions : List Action) (z : State) → Same z (fold (with_action b) z actions)
+-- a finaliser changes roots alone
+pub actions_same : (b : BlockId) (actions : List Action) (z : State) → Same z (fold (with_action b) z actions)
 actions_same b [] z = (refl, refl, refl)
 actions_same b (action.Keep g ∷ more) z = actions_same b more (with_action b z (action.Keep g))
 actions_same b (action.Pass g at ∷ more) z = actions_same b more (with_action b z (action.Pass g at))

@@ -27,12 +27,12 @@ use Rattle.zone_model.specs.Effect.{Effect, new_block, with_new, weak_loc}
 use Rattle.zone_model.specs.Step.{Step, Happens, seen_now, with_moment}
 use Rattle.zone_model.specs.History.{Run, Ends}
 use Rattle.zone_model.proofs.Made.{AllMade, step_made}
-use Rattle.zone_model.specs.Sound.{Sound}
+use Rattle.zone_model.proofs.Intact.{Intact}
 use Rattle.zone_model.specs.Laws.{SameCycle, CycleStays, NoneOf}
 use Rattle.zone_model.proofs.Blocks.{not_both, own_inside, there_out, edit_get, left_get, escape_at, got_escaped}
-use Rattle.zone_model.proofs.SoundEscapes.{escape_sound}
-use Rattle.zone_model.proofs.SoundCycles.{condemned_out}
-use Rattle.zone_model.proofs.Soundness.{next_free, escaped_made, step_sound, ends_sound}
+use Rattle.zone_model.proofs.IntactEscapes.{escape_intact}
+use Rattle.zone_model.proofs.IntactCycles.{condemned_out}
+use Rattle.zone_model.proofs.IntactSteps.{next_free, escaped_made, step_intact, ends_intact}
 
 -- a block waits for its finaliser
 abbrev waits_of : Option Block → Bool
@@ -60,7 +60,7 @@ stays_on t x y z f g = record {
 }
 
 -- a change that keeps the cycle and the escaped blocks' finalisers
-kept : (t : ℕ) (z a : State) → Sound z → a.cycle ≡ z.cycle → ((b : BlockId) → IsTrue (is_escaped z b) → awaits a b ≡ awaits z b) → CycleStays t z a
+kept : (t : ℕ) (z a : State) → Intact z → a.cycle ≡ z.cycle → ((b : BlockId) → IsTrue (is_escaped z b) → awaits a b ≡ awaits z b) → CycleStays t z a
 kept t z a s same finals = record {
   still = λ c has. (c, (same ∙ has.0, has.1), alike c has);
   before = λ d has. let back : HasCycle z t d = (sym same ∙ has.0, has.1) in (d, back, alike d back);
@@ -87,7 +87,7 @@ edit_waits m id f actions finalised q = ap waits_of (edit_get m id f q) ∙ by (
     by true (Some b) = ap (λ acts. not (is_nil acts) && not (f b).finalised) (actions b) ∙ ap (λ done. not (is_nil b.actions) && not done) (finalised b)
     by false o = refl
 
-module _ (z : State) (s : Sound z) (u t : ℕ) (other : (u == t) ≡ false) where
+module _ (z : State) (s : Intact z) (u t : ℕ) (other : (u == t) ≡ false) where
   word_stays : (a : Option BlockId) (at : ℕ) (w : Word) → CycleStays t z (with_word z a at w)
   word_stays None at w = stays_same t z
   word_stays (Some id) at w = kept t z (with_word z (Some id) at w) s refl (λ b out. edit_waits z.blocks id (λ b. record b { words = slice_set b.words at w }) (λ b. refl) (λ b. refl) b)
@@ -186,7 +186,7 @@ seen_stays t z = go z.cycle refl
           (c, (e, sym (alike c).owner ∙ ap (λ (k : Cycle). k.owner) same ∙ has.1), subst (SameCycle z (seen_now z) c) same (alike c));
     }
 
-escape_stays : (t : ℕ) (z : State) → Sound z → (need : BlockId → Bool) → CycleStays t z (with_escaped z need)
+escape_stays : (t : ℕ) (z : State) → Intact z → (need : BlockId → Bool) → CycleStays t z (with_escaped z need)
 escape_stays t z s need = kept t z (with_escaped z need) s refl (λ b out. ap waits_of (got_escaped z need b) ∙ by (need b) (get z.blocks b))
   where
     by : (n : Bool) (o : Option Block) → waits_of (option_map (escape_at z n) o) ≡ waits_of o
@@ -194,17 +194,17 @@ escape_stays t z s need = kept t z (with_escaped z need) s refl (λ b out. ap wa
     by true (Some b) = refl
     by false (Some b) = refl
 
-happens_stays : (z : State) (u t : ℕ) (c : Call) (r : Reply) (a : State) → Sound z → (u == t) ≡ false → get z.blocks (id_of u (z.serials u)) ≡ None → Happens z u c r a → CycleStays t z a
+happens_stays : (z : State) (u t : ℕ) (c : Call) (r : Reply) (a : State) → Intact z → (u == t) ≡ false → get z.blocks (id_of u (z.serials u)) ≡ None → Happens z u c r a → CycleStays t z a
 happens_stays z u t c reply.Busy a s other free h = subst (CycleStays t z) (sym h.1) (stays_same t z)
 happens_stays z u t c r a s other free h = subst (CycleStays t z) (sym h.2) (stays_on t z h.0 (seen_now h.0) (effect_stays z s u t other c r h.0 free h.1) (seen_stays t h.0))
 
-pub step_stays : (z : State) (e : Entry) (a : State) (t : ℕ) → Sound z → AllMade z → Step z e a → (e.thread == t) ≡ false → CycleStays t z a
+pub step_stays : (z : State) (e : Entry) (a : State) (t : ℕ) → Intact z → AllMade z → Step z e a → (e.thread == t) ≡ false → CycleStays t z a
 step_stays z e a t s made k other = by_misuse (misuse_of z e.thread e.call k.need) refl k.does
   where
     by_misuse : (m : Option Misuse) → misuse_of z e.thread e.call k.need ≡ m → MatchOption m (Happens (with_escaped z k.need) e.thread e.call e.reply a) (λ m. (e.reply ≡ reply.Misuse m) × (a ≡ z)) → CycleStays t z a
     by_misuse None right h =
         stays_on t z (with_escaped z k.need) a (escape_stays t z s k.need)
-        (happens_stays (with_escaped z k.need) e.thread t e.call e.reply a (escape_sound z s e.thread e.call k.need k.needed right) other (escaped_made z k.need e.thread (next_free z made e.thread)) h)
+        (happens_stays (with_escaped z k.need) e.thread t e.call e.reply a (escape_intact z s e.thread e.call k.need k.needed right) other (escaped_made z k.need e.thread (next_free z made e.thread)) h)
     by_misuse (Some m) right h = subst (CycleStays t z) (sym h.1) (stays_same t z)
 
 or_first : (a b : Bool) → (a || b) ≡ false → a ≡ false
@@ -215,12 +215,12 @@ or_second : (a b : Bool) → (a || b) ≡ false → b ≡ false
 or_second true b h = cc (h)
 or_second false b h = h
 
-pub run_stays : (z : State) (es : List Entry) (a : State) (t : ℕ) → Sound z → AllMade z → Run z es a → NoneOf t es → CycleStays t z a
+pub run_stays : (z : State) (es : List Entry) (a : State) (t : ℕ) → Intact z → AllMade z → Run z es a → NoneOf t es → CycleStays t z a
 run_stays z [] a t s made run none = subst (CycleStays t z) (sym run) (stays_same t z)
 run_stays z (e ∷ es) a t s made run none =
     stays_on t z run.0 a (step_stays z e run.0 t s made run.1 (or_first (e.thread == t) (list_any (λ e. e.thread == t) es) none))
-    (run_stays run.0 es a t (step_sound z e run.0 s made run.1) (step_made z e run.0 run.1 made) run.2 (or_second (e.thread == t) (list_any (λ e. e.thread == t) es) none))
+    (run_stays run.0 es a t (step_intact z e run.0 s made run.1) (step_made z e run.0 run.1 made) run.2 (or_second (e.thread == t) (list_any (λ e. e.thread == t) es) none))
 
 -- the law Cycle
 pub cycle_law : (o : Options) (history later : List Entry) (y z : State) (t : ℕ) → Ends o history y → Run y later z → NoneOf t later → CycleStays t y z
-cycle_law o history later y z t ends run none = let s = ends_sound o history y ends in run_stays y later z t s.0 s.1 run none
+cycle_law o history later y z t ends run none = let s = ends_intact o history y ends in run_stays y later z t s.0 s.1 run none

@@ -16,9 +16,10 @@ use Rattle.zone_model.specs.State.{State, Block, with_register, with_word, witho
 use Rattle.zone_model.specs.Collection.{with_action, actions_of, with_finalised, with_end}
 use Rattle.zone_model.specs.Effect.{Effect, with_new, weak_loc}
 use Rattle.zone_model.specs.Part.{Part, part_of, put_register, put_word, put_new, part_after}
-use Rattle.zone_model.specs.Sound.{Sound, Knows}
+use Rattle.zone_model.specs.Sound.{Knows}
+use Rattle.zone_model.proofs.Intact.{Intact}
 use Rattle.zone_model.proofs.Blocks.{is_out, not_both, own_inside, own_thread}
-use Rattle.zone_model.proofs.SoundCycles.{found_among, condemned_out}
+use Rattle.zone_model.proofs.IntactCycles.{found_among, condemned_out}
 use Rattle.zone_model.proofs.PartChanges.{edited_part, edited_others, left_part, left_others, left_none, new_part, new_others}
 
 same_part : (p q : Part) → p.options ≡ q.options → p.registers ≡ q.registers → p.serials ≡ q.serials → p.ended ≡ q.ended → p.blocks ≡ q.blocks → p ≡ q
@@ -80,9 +81,9 @@ finalise_part z b u out =
     ap (λ m. record (part_of y u) { blocks = m }) (edited_others y u b (λ k. record k { finalised = true }) (λ k. refl) (out_not_own y u b (ap (λ (m : FinMap id_cmp Block). is_out (get m b)) (actions_blocks b (actions_of z b) z) ∙ out)))
     ∙ actions_part b (actions_of z b) z u
 
-module _ (z : State) (s : Sound z) (t : ℕ) where
+module _ (z : State) (s : Intact z) (t : ℕ) where
   held_others : (r u : ℕ) → (t == u) ≡ false → (id : BlockId) → z.registers t r ≡ Some id → IsFalse (is_own z u id)
-  held_others r u other id h = by_knows (s.registers t r id h)
+  held_others r u other id h = by_knows (s.names.registers t r id h)
     where
       by_knows : Knows z t id → IsFalse (is_own z u id)
       by_knows (inl out) = out_not_own z u id out

@@ -10,9 +10,10 @@ use Rattle.zone_model.specs.State.{State, Block, is_unescaped, is_own}
 use Rattle.zone_model.specs.Reach.{Edge, WordEdge, Path}
 use Rattle.zone_model.specs.Escape.{EscOf, HoldsEscaped, Need, Tells, block_named}
 use Rattle.zone_model.specs.Part.{part_of, is_in, is_within, EscWithin, NeedWithin, named_within}
-use Rattle.zone_model.specs.Sound.{Sound, Knows, MayRefer}
+use Rattle.zone_model.specs.Sound.{Knows, MayRefer}
+use Rattle.zone_model.proofs.Intact.{Intact}
 use Rattle.zone_model.proofs.Blocks.{is_inside, not_both, there_inside, own_inside}
-use Rattle.zone_model.proofs.SoundWords.{edge_known}
+use Rattle.zone_model.proofs.IntactWords.{edge_known}
 use Rattle.zone_model.proofs.PartChanges.{shown_in, part_get}
 
 -- a part has exactly its thread's unescaped blocks
@@ -42,15 +43,15 @@ pub part_path : (z : State) (t : ℕ) (a : BlockId) (steps : List BlockId) (b : 
 part_path z t a [] b p = p
 part_path z t a (c ∷ steps) b p = (inl (part_edge z t a c p.0), part_path z t c steps b p.1)
 
-module _ (z : State) (s : Sound z) (t : ℕ) where
+module _ (z : State) (s : Intact z) (t : ℕ) where
   -- a path from a block that the thread knows to an unescaped one stays in its part
   pub path_within : (a : BlockId) (steps : List BlockId) (q : BlockId) → Path (Edge z) a steps q → Knows z t a → IsTrue (is_unescaped z q)
       → IsTrue (is_own z t a) × IsTrue (is_own z t q) × Path (WordEdge (part_of z t).blocks) a steps q
   path_within a [] q p (inl out) inside = absurd (not_both (get z.blocks a) out (subst (λ x. IsTrue (is_unescaped z x)) (sym p) inside))
   path_within a [] q p (inr own) inside = (own, subst (λ x. IsTrue (is_own z t x)) p own, p)
   path_within a (c ∷ steps) q (inl e, p) known inside =
-      let rest = path_within c steps q p (edge_known z t a c known (s.words a c e)) inside in
-      let own : IsTrue (is_own z t a) = from_own known (s.words a c e) rest.0 in
+      let rest = path_within c steps q p (edge_known z t a c known (s.names.words a c e)) inside in
+      let own : IsTrue (is_own z t a) = from_own known (s.names.words a c e) rest.0 in
       (own, rest.1, ((e.0, e.1, part_has z t a own ∙ e.2, e.3), rest.2))
     where
       from_own : Knows z t a → MayRefer z a c → IsTrue (is_own z t c) → IsTrue (is_own z t a)
@@ -58,8 +59,8 @@ module _ (z : State) (s : Sound z) (t : ℕ) where
       from_own (inl out) (inl there) mine = absurd (not_both (get z.blocks c) there (own_inside z t c mine))
       from_own (inl out) (inr both) mine = absurd (not_both (get z.blocks a) out both.0)
   path_within a (c ∷ steps) q (inr e, p) known inside =
-      let rest = path_within c steps q p (inl (s.values a e.0 c e.1)) inside in
-      absurd (not_both (get z.blocks c) (s.values a e.0 c e.1) (own_inside z t c rest.0))
+      let rest = path_within c steps q p (inl (s.names.values a e.0 c e.1)) inside in
+      absurd (not_both (get z.blocks c) (s.names.values a e.0 c e.1) (own_inside z t c rest.0))
 
   esc_within : (o : Option BlockId) (q : BlockId) → ((b : BlockId) → o ≡ Some b → Knows z t b) → EscOf z o q → EscWithin (part_of z t) o q
   esc_within None q known e = e
@@ -88,7 +89,7 @@ module _ (z : State) (s : Sound z) (t : ℕ) where
 
   named_known : (l : Loc) (b : BlockId) → block_named z t l ≡ Some b → Knows z t b
   named_known (loc.Root w) b h = cc (h)
-  named_known (loc.Word a at) b h = s.registers t a b h
+  named_known (loc.Word a at) b h = s.names.registers t a b h
 
   same_named : (l : Loc) → named_within (part_of z t) l ≡ block_named z t l
   same_named (loc.Root w) = refl
@@ -103,16 +104,16 @@ module _ (z : State) (s : Sound z) (t : ℕ) where
   back o p q (inr e) = inr (within_esc p q e)
 
   need_within : (c : Call) (q : BlockId) → Need z t c q → NeedWithin (part_of z t) c q
-  need_within (call.Store into at from) q n = (not_within (z.registers t into) n.0, esc_within (z.registers t from) q (s.registers t from) n.1)
-  need_within (call.SetRoot root from) q n = esc_within (z.registers t from) q (s.registers t from) n
-  need_within (call.Retain reg) q n = esc_within (z.registers t reg) q (s.registers t reg) n
-  need_within (call.SetAssoc object key value) q n = either (z.registers t object) (z.registers t value) q (s.registers t object) (s.registers t value) n
-  need_within (call.SetWeak (loc.Root w) from) q n = either (z.registers t from) None q (s.registers t from) (λ b h. cc (h)) n
-  need_within (call.SetWeak (loc.Word a at) from) q n = either (z.registers t from) (z.registers t a) q (s.registers t from) (s.registers t a) n
+  need_within (call.Store into at from) q n = (not_within (z.registers t into) n.0, esc_within (z.registers t from) q (s.names.registers t from) n.1)
+  need_within (call.SetRoot root from) q n = esc_within (z.registers t from) q (s.names.registers t from) n
+  need_within (call.Retain reg) q n = esc_within (z.registers t reg) q (s.names.registers t reg) n
+  need_within (call.SetAssoc object key value) q n = either (z.registers t object) (z.registers t value) q (s.names.registers t object) (s.names.registers t value) n
+  need_within (call.SetWeak (loc.Root w) from) q n = either (z.registers t from) None q (s.names.registers t from) (λ b h. cc (h)) n
+  need_within (call.SetWeak (loc.Word a at) from) q n = either (z.registers t from) (z.registers t a) q (s.names.registers t from) (s.names.registers t a) n
   need_within _ q n = absurd n
 
   within_need : (c : Call) (q : BlockId) → NeedWithin (part_of z t) c q → Need z t c q
-  within_need (call.Store into at from) q n = (holds_escaped (z.registers t into) (s.registers t into) n.0, within_esc (z.registers t from) q n.1)
+  within_need (call.Store into at from) q n = (holds_escaped (z.registers t into) (s.names.registers t into) n.0, within_esc (z.registers t from) q n.1)
   within_need (call.SetRoot root from) q n = within_esc (z.registers t from) q n
   within_need (call.Retain reg) q n = within_esc (z.registers t reg) q n
   within_need (call.SetAssoc object key value) q n = back (z.registers t object) (z.registers t value) q n
@@ -133,9 +134,9 @@ module _ (z : State) (s : Sound z) (t : ℕ) where
 
   -- only the thread's own blocks escape
   pub need_own : (c : Call) (q : BlockId) → Need z t c q → IsTrue (is_own z t q)
-  need_own (call.Store into at from) q n = esc_own (z.registers t from) q (s.registers t from) n.1
-  need_own (call.SetRoot root from) q n = esc_own (z.registers t from) q (s.registers t from) n
-  need_own (call.Retain reg) q n = esc_own (z.registers t reg) q (s.registers t reg) n
-  need_own (call.SetAssoc object key value) q n = either_own (z.registers t object) (z.registers t value) q (s.registers t object) (s.registers t value) n
-  need_own (call.SetWeak loc from) q n = either_own (z.registers t from) (block_named z t loc) q (s.registers t from) (named_known loc) n
+  need_own (call.Store into at from) q n = esc_own (z.registers t from) q (s.names.registers t from) n.1
+  need_own (call.SetRoot root from) q n = esc_own (z.registers t from) q (s.names.registers t from) n
+  need_own (call.Retain reg) q n = esc_own (z.registers t reg) q (s.names.registers t reg) n
+  need_own (call.SetAssoc object key value) q n = either_own (z.registers t object) (z.registers t value) q (s.names.registers t object) (s.names.registers t value) n
+  need_own (call.SetWeak loc from) q n = either_own (z.registers t from) (block_named z t loc) q (s.names.registers t from) (named_known loc) n
   need_own _ q n = absurd n

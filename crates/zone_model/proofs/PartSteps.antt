@@ -19,10 +19,10 @@ use Rattle.zone_model.specs.History.{Run, Ends, entries_of}
 use Rattle.zone_model.specs.Part.{part_of, opening_part, part_after, PartStep, PartRun, Solo}
 use Rattle.zone_model.proofs.Steps.{none_escaped, tells_none}
 use Rattle.zone_model.proofs.Made.{AllMade, step_made, opening_made}
-use Rattle.zone_model.specs.Sound.{Sound}
+use Rattle.zone_model.proofs.Intact.{Intact}
 use Rattle.zone_model.proofs.Blocks.{own_thread}
-use Rattle.zone_model.proofs.SoundEscapes.{escape_sound}
-use Rattle.zone_model.proofs.Soundness.{next_free, escaped_made, step_sound, opening_sound}
+use Rattle.zone_model.proofs.IntactEscapes.{escape_intact}
+use Rattle.zone_model.proofs.IntactSteps.{next_free, escaped_made, step_intact, opening_intact}
 use Rattle.zone_model.proofs.PartChanges.{shown_in, are_blocks, escaped_part, escaped_others}
 use Rattle.zone_model.proofs.PartNeeds.{tells_within, need_own}
 use Rattle.zone_model.proofs.PartEffects.{effect_part, effect_others}
@@ -37,27 +37,27 @@ pub busy_needs : (y z : State) (t : ℕ) (c : Call) (need : BlockId → Bool) �
 busy_needs y z t (call.Begin mode) need busy tells = tells_none need _ tells (λ id n. n)
 busy_needs y z t _ need busy tells = absurd busy
 
-module _ (z : State) (s : Sound z) (t : ℕ) (need : BlockId → Bool) where
+module _ (z : State) (s : Intact z) (t : ℕ) (need : BlockId → Bool) where
   abbrev y : State
   y = with_escaped z need
 
-  happens_own : (c : Call) (r : Reply) (a : State) → Sound y → Tells need (Need z t c) → get y.blocks (id_of t (y.serials t)) ≡ None → Happens y t c r a → PartStep (part_of z t) c r (part_of a t)
+  happens_own : (c : Call) (r : Reply) (a : State) → Intact y → Tells need (Need z t c) → get y.blocks (id_of t (y.serials t)) ≡ None → Happens y t c r a → PartStep (part_of z t) c r (part_of a t)
   happens_own c reply.Busy a sound tells free h = ap (λ x. part_of x t) (h.1 ∙ ap (with_escaped z) (busy_needs y z t c need h.0 tells) ∙ none_escaped z)
   happens_own c (reply.Misuse m) a sound tells free h = absurd (no_misuse y t c m h.0 h.1)
   happens_own c r a sound tells free h =
       (need, tells_within z s t c need tells, ap (λ x. part_of x t) h.2 ∙ effect_part y sound t c r h.0 free h.1 ∙ ap (λ p. part_after p c r) (escaped_part z need t))
 
-  happens_others : (c : Call) (r : Reply) (a : State) (u : ℕ) → (t == u) ≡ false → Sound y → Happens y t c r a → part_of a u ≡ part_of y u
+  happens_others : (c : Call) (r : Reply) (a : State) (u : ℕ) → (t == u) ≡ false → Intact y → Happens y t c r a → part_of a u ≡ part_of y u
   happens_others c reply.Busy a u other sound h = ap (λ x. part_of x u) h.1
   happens_others c r a u other sound h = ap (λ x. part_of x u) h.2 ∙ effect_others y sound t c r h.0 u other h.1
 
-module _ (z : State) (e : Entry) (after : State) (s : Sound z) (made : AllMade z) (k : Step z e after) where
+module _ (z : State) (e : Entry) (after : State) (s : Intact z) (made : AllMade z) (k : Step z e after) where
   pub step_own : PartStep (part_of z e.thread) e.call e.reply (part_of after e.thread)
   step_own = by_misuse (misuse_of z e.thread e.call k.need) refl k.does
     where
       by_misuse : (m : Option Misuse) → misuse_of z e.thread e.call k.need ≡ m → MatchOption m (Happens (with_escaped z k.need) e.thread e.call e.reply after) (λ m. (e.reply ≡ reply.Misuse m) × (after ≡ z)) → PartStep (part_of z e.thread) e.call e.reply (part_of after e.thread)
       by_misuse None right h =
-          happens_own z s e.thread k.need e.call e.reply after (escape_sound z s e.thread e.call k.need k.needed right) k.needed (escaped_made z k.need e.thread (next_free z made e.thread)) h
+          happens_own z s e.thread k.need e.call e.reply after (escape_intact z s e.thread e.call k.need k.needed right) k.needed (escaped_made z k.need e.thread (next_free z made e.thread)) h
       by_misuse (Some m) right h = subst (λ r. PartStep (part_of z e.thread) e.call r (part_of after e.thread)) (sym h.0) (ap (λ x. part_of x e.thread) h.1)
 
   pub step_others : (u : ℕ) → (e.thread == u) ≡ false → part_of after u ≡ part_of z u
@@ -70,13 +70,13 @@ module _ (z : State) (e : Entry) (after : State) (s : Sound z) (made : AllMade z
 
       by_misuse : (m : Option Misuse) → misuse_of z e.thread e.call k.need ≡ m → MatchOption m (Happens (with_escaped z k.need) e.thread e.call e.reply after) (λ m. (e.reply ≡ reply.Misuse m) × (after ≡ z)) → part_of after u ≡ part_of z u
       by_misuse None right h =
-          happens_others z s e.thread k.need e.call e.reply after u other (escape_sound z s e.thread e.call k.need k.needed right) h
+          happens_others z s e.thread k.need e.call e.reply after u other (escape_intact z s e.thread e.call k.need k.needed right) h
           ∙ escaped_others z k.need u need_other
       by_misuse (Some m) right h = ap (λ x. part_of x u) h.1
 
-pub run_parts : (z : State) (es : List Entry) (after : State) (t : ℕ) → Sound z → AllMade z → Run z es after → PartRun (part_of z t) (entries_of t es) (part_of after t)
+pub run_parts : (z : State) (es : List Entry) (after : State) (t : ℕ) → Intact z → AllMade z → Run z es after → PartRun (part_of z t) (entries_of t es) (part_of after t)
 run_parts z [] after t s made run = ap (λ x. part_of x t) run
-run_parts z (e ∷ es) after t s made run = by_thread (e.thread == t) refl (run_parts run.0 es after t (step_sound z e run.0 s made run.1) (step_made z e run.0 run.1 made) run.2)
+run_parts z (e ∷ es) after t s made run = by_thread (e.thread == t) refl (run_parts run.0 es after t (step_intact z e run.0 s made run.1) (step_made z e run.0 run.1 made) run.2)
   where
     by_thread : (b : Bool) → (e.thread == t) ≡ b → PartRun (part_of run.0 t) (entries_of t es) (part_of after t) → PartRun (part_of z t) (cond b (e ∷ entries_of t es) (entries_of t es)) (part_of after t)
     by_thread true is rest = (part_of run.0 t, subst (λ u. PartStep (part_of z u) e.call e.reply (part_of run.0 u)) (eqb-true e.thread t is) (step_own z e run.0 s made run.1), rest)
@@ -91,4 +91,4 @@ opening_is o t = ap (λ m. record (opening_part o) { blocks = m }) (are_blocks (
 
 -- the law Parts
 pub parts_law : (o : Options) (history : List Entry) (z : State) (t : ℕ) → Ends o history z → Solo o (entries_of t history) (part_of z t)
-parts_law o history z t ends = subst (λ p. PartRun p (entries_of t history) (part_of z t)) (opening_is o t) (run_parts (opening o) history z t (opening_sound o) (opening_made o) ends)
+parts_law o history z t ends = subst (λ p. PartRun p (entries_of t history) (part_of z t)) (opening_is o t) (run_parts (opening o) history z t (opening_intact o) (opening_made o) ends)

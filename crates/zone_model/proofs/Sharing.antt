@@ -23,10 +23,10 @@ use Rattle.zone_model.specs.Step.{Step, seen_now, with_moment}
 use Rattle.zone_model.specs.Part.{part_of, is_within, is_local, passes_local}
 use Rattle.zone_model.proofs.Steps.{plain_happens}
 use Rattle.zone_model.proofs.Made.{AllMade}
-use Rattle.zone_model.specs.Sound.{Sound}
+use Rattle.zone_model.proofs.Intact.{Intact}
 use Rattle.zone_model.specs.SameShared.{escaped_only, SeesMore, SameShared}
 use Rattle.zone_model.proofs.Blocks.{is_inside, own_inside, edit_get, left_get}
-use Rattle.zone_model.proofs.Soundness.{next_free}
+use Rattle.zone_model.proofs.IntactSteps.{next_free}
 use Rattle.zone_model.proofs.PartChanges.{born_in_part}
 use Rattle.zone_model.proofs.PartNeeds.{in_part}
 use Rattle.zone_model.proofs.LocalCalls.{local_needs, local_busy, happens_effect, plain_refused}
@@ -152,7 +152,7 @@ seen_shared : (z mid : State) → SameShared z mid → SameShared z (seen_now mi
 seen_shared z mid s = record { options = s.options; blocks = s.blocks; roots = s.roots; counts = s.counts; weak = s.weak; assocs = s.assocs; reclaims = s.reclaims; cycle = sees_on z.cycle mid.cycle (seen_now mid).cycle s.cycle (sees_now (moment mid) mid.cycle) }
 
 -- a local call changes nothing that is shared
-pub step_shared : (z : State) (s : Sound z) (made : AllMade z) (e : Entry) (a : State) → Step z e a → is_local (part_of z e.thread) e.call ≡ true → SameShared z a
+pub step_shared : (z : State) (s : Intact z) (made : AllMade z) (e : Entry) (a : State) → Step z e a → is_local (part_of z e.thread) e.call ≡ true → SameShared z a
 step_shared z s made e a k local = by_misuse (misuse_of z e.thread e.call (λ _. false)) refl
   where
     by_misuse : (m : Option Misuse) → misuse_of z e.thread e.call (λ _. false) ≡ m → SameShared z a

@@ -1,155 +1,96 @@
--- Each state of a legal history is sound
-use Rattle.std.proofs.Common.{◌≡◌, ◌<◌, ◌+◌, ℕ, Bool, true, false, cond, List, [], ◌∷◌, Option, Some, None, MatchOption, IsTrue, IsFalse, refl, sym, ap, subst, ◌∙◌, inl, is_some, arith, unwrap_or}
-use Rattle.std.specs.Option.{option_map, option_map_or}
-use Rattle.std.specs.FinMap.{get, get-empty}
+-- Each step keeps a state sound
+use Rattle.std.proofs.Common.{◌≡◌, ◌≤◌, ◌||◌, ℕ, true, false, Bool, Option, Some, None, List, [], ◌∷◌, refl, sym, ap, subst, ◌∙◌, ◌⊎◌, inl, inr, is_some, option_and_then, IsTrue, IsFalse}
+use Rattle.std.specs.Option.{option_map_or}
+use Rattle.std.specs.FinMap.{get}
 use Rattle.az_base.specs.declared.block_id.BlockId.{BlockId}
-use Rattle.az_base.specs.declared.misuse.Misuse.{Misuse}
 use Rattle.az_base.specs.declared.options.Options.{Options}
-use Rattle.az_base.specs.declared.weak_loc.WeakLoc.{WeakLoc}
-use Rattle.az_base.specs.declared.weak_loc.WeakLoc.TheVariants as weak
-use Rattle.az_base.specs.Ids.{id_cmp, id_of}
-use Rattle.az_base.specs.Places.{pair_cmp, loc_cmp}
-use Rattle.zone_model.specs.declared.call.Call.{Call}
-use Rattle.zone_model.specs.declared.call.Call.TheVariants as call
-use Rattle.zone_model.specs.declared.call.Loc.{Loc}
-use Rattle.zone_model.specs.declared.call.Loc.TheVariants as loc
-use Rattle.zone_model.specs.declared.entry.Reply.{Reply}
-use Rattle.zone_model.specs.declared.entry.Reply.TheVariants as reply
+use Rattle.az_base.specs.Ids.{among}
 use Rattle.zone_model.specs.declared.entry.Entry.{Entry}
-use Rattle.zone_model.specs.Maps.{total-empty}
-use Rattle.zone_model.specs.State.{State, opening, with_weak, with_assoc, with_count, is_escaped, is_condemned, count_of}
-use Rattle.zone_model.specs.Escape.{with_escaped, block_named}
-use Rattle.zone_model.specs.Misuses.{misuse_of}
-use Rattle.zone_model.specs.Effect.{Effect, assoc_of, weak_loc, weak_value, value_to_show, count_in}
-use Rattle.zone_model.specs.Quanta.{used_quanta}
-use Rattle.zone_model.specs.Step.{Step, Happens}
+use Rattle.zone_model.specs.State.{State, Block, Cycle, opening}
+use Rattle.zone_model.specs.Reach.{Edge}
+use Rattle.zone_model.specs.Collection.{IsReached}
+use Rattle.zone_model.specs.Step.{Step}
 use Rattle.zone_model.specs.History.{Run, Ends}
-use Rattle.zone_model.proofs.Made.{AllMade, opening_made, step_made}
-use Rattle.zone_model.specs.Sound.{Sound}
-use Rattle.zone_model.proofs.Blocks.{got_escaped}
-use Rattle.zone_model.proofs.SoundChanges.{register_sound, root_sound, count_sound, assoc_sound, weak_sound}
-use Rattle.zone_model.proofs.SoundEscapes.{Rests, escape_sound, call_rests}
-use Rattle.zone_model.proofs.SoundWords.{load_known, store_sound, put_sound, seen_sound}
-use Rattle.zone_model.proofs.SoundBirths.{new_sound}
-use Rattle.zone_model.proofs.SoundEnds.{collect_sound, leave_sound}
-use Rattle.zone_model.proofs.SoundCycles.{begin_sound, condemn_sound, finalise_sound, reclaim_sound, found_among, condemned_out}
+use Rattle.zone_model.specs.Sound.{Sound, is_started}
+use Rattle.zone_model.specs.Reached.{OpenReached}
+use Rattle.zone_model.proofs.Made.{AllMade, is_of, step_made, opening_made}
+use Rattle.zone_model.proofs.Intact.{Intact}
+use Rattle.zone_model.proofs.IntactSteps.{step_intact, opening_intact}
+use Rattle.zone_model.proofs.BlocksFit.{AllFit, step_fits, opening_fits}
+use Rattle.zone_model.proofs.Reaching.{step_reached}
 
-some_id : (a b : BlockId) → Some a ≡ Some b → a ≡ b
-some_id a b h = cc
+-- a sound state, taken apart as the steps keep it
+pub sound_intact : (z : State) → Sound z → Intact z
+sound_intact z s = record { names = s.names; cycle = s.cycle; used = s.numbers.used }
 
--- the next id of a thread is free
-pub next_free : (z : State) → AllMade z → (t : ℕ) → get z.blocks (id_of t (z.serials t)) ≡ None
-next_free z made t = go (get z.blocks (id_of t (z.serials t))) refl
-  where
-    go : (o : Option _) → get z.blocks (id_of t (z.serials t)) ≡ o → get z.blocks (id_of t (z.serials t)) ≡ None
-    go None e = e
-    go (Some b) e = let below : z.serials t < z.serials t = made (id_of t (z.serials t)) (inl (ap is_some e)) in absurd (omega (arith, below))
-
--- an escape makes no ids
-pub escaped_made : (z : State) (need : BlockId → Bool) (t : ℕ) → get z.blocks (id_of t (z.serials t)) ≡ None → get (with_escaped z need).blocks (id_of t (z.serials t)) ≡ None
-escaped_made z need t none = got_escaped z need (id_of t (z.serials t)) ∙ ap (option_map _) none
-
-module _ (z : State) (s : Sound z) (t : ℕ) where
-  counted : (o : Option BlockId) (n : ℕ) → ((b : BlockId) → o ≡ Some b → IsTrue (is_escaped z b)) → Sound (option_map_or (λ b. with_count z b n) o z)
-  counted None n out = s
-  counted (Some b) n out = count_sound z s b n (out b refl)
-
-  -- a block with a count has escaped
-  released : (reg n : ℕ) → n + 1 ≡ count_in z t reg → (b : BlockId) → z.registers t reg ≡ Some b → IsTrue (is_escaped z b)
-  released reg n is b h = s.counts b (let one : count_in z t reg ≡ count_of z b = ap (λ o. option_map_or (λ b. count_of z b) o 0) h in omega (arith, is, one))
-
-  got_assoc : (o : Option BlockId) (key : ℕ) (b : BlockId) → assoc_of z o key ≡ Some b → IsTrue (is_escaped z b)
-  got_assoc None key b h = cc (h)
-  got_assoc (Some a) key b h = s.values a key b h
-
-  associated : (o v : Option BlockId) (key : ℕ) → ((b : BlockId) → o ≡ Some b → IsTrue (is_escaped z b)) → ((b : BlockId) → v ≡ Some b → IsTrue (is_escaped z b)) → Sound (option_map_or (λ a. with_assoc z a key v) o z)
-  associated None v key out value = s
-  associated (Some a) v key out value = assoc_sound z s a key v (out a refl) value
-
-  read : (l : Option WeakLoc) (b : BlockId) → weak_value z l ≡ Some b → IsTrue (is_escaped z b)
-  read None b h = cc (h)
-  read (Some l) b h = s.shown l b h
-
-  -- what is to be shown is the value, and isn't condemned
-  to_show : (v : Option BlockId) (b : BlockId) → value_to_show z v ≡ Some b → (v ≡ Some b) × IsFalse (is_condemned z b)
-  to_show None b h = cc (h)
-  to_show (Some x) b h = by_test (is_condemned z x) refl h
-    where
-      by_test : (c : Bool) → is_condemned z x ≡ c → cond c None (Some x) ≡ Some b → (Some x ≡ Some b) × IsFalse (is_condemned z b)
-      by_test true e h = cc (h)
-      by_test false e h = (h, sym (ap (is_condemned z) (some_id x b h)) ∙ e)
-
-  shown : (loc : Loc) (v w : Option BlockId) → w ≡ value_to_show z v → ((b : BlockId) → v ≡ Some b → IsTrue (is_escaped z b)) → ((b : BlockId) → block_named z t loc ≡ Some b → IsTrue (is_escaped z b)) → Sound (option_map_or (λ l. with_weak z l w) (weak_loc z t loc) z)
-  shown (loc.Root k) v w is value named = weak_sound z s (weak.Root k) w (λ a at e. cc (e)) (λ b h. let was = to_show v b (sym is ∙ h) in (value b was.0, was.1))
-  shown (loc.Word r at) v w is value named = by_register (z.registers t r) named
-    where
-      by_register : (o : Option BlockId) → ((b : BlockId) → o ≡ Some b → IsTrue (is_escaped z b)) → Sound (option_map_or (λ l. with_weak z l w) (option_map (λ id. weak.Word id at) o) z)
-      by_register None named = s
-      by_register (Some id) named = weak_sound z s (weak.Word id at) w (λ a i e. let same : id ≡ a = cc in subst (λ x. IsTrue (is_escaped z x)) same (named id refl)) (λ b h. let was = to_show v b (sym is ∙ h) in (value b was.0, was.1))
-
-  effect_sound : (c : Call) (r : Reply) (a : State) → get z.blocks (id_of t (z.serials t)) ≡ None → Rests z t c → Effect z t c r a → Sound a
-  effect_sound (call.New to layout actions) (reply.Block id) a free rests h = subst Sound (sym h.1) (new_sound z s t to layout actions free rests)
-  effect_sound (call.Load to from at) (reply.Block b) a free rests h = subst Sound (sym h.1) (register_sound z s t to b (load_known z s t from at b h.0))
-  effect_sound (call.Store into at from) reply.Done a free rests h = subst Sound (sym h) (store_sound z s t into at from rests)
-  effect_sound (call.Put into at number) reply.Done a free rests h = subst Sound (sym h) (put_sound z s (z.registers t into) at number)
-  effect_sound (call.Get from at) (reply.Number k) a free rests h = subst Sound (sym h.1) s
-  effect_sound (call.Copy to from) reply.Done a free rests h = subst Sound (sym h) (register_sound z s t to (z.registers t from) (s.registers t from))
-  effect_sound (call.DropReg reg) reply.Done a free rests h = subst Sound (sym h) (register_sound z s t reg None (λ b e. cc (e)))
-  effect_sound call.CollectLocal (reply.Reclaimed gone) a free rests h = subst Sound (sym h.1) (collect_sound z s t gone.list h.0)
-  effect_sound (call.SetRoot root from) reply.Done a free rests h = subst Sound (sym h) (root_sound z s root.0 (z.registers t from) rests)
-  effect_sound (call.GetRoot to root) (reply.Block b) a free rests h = subst Sound (sym h.1) (register_sound z s t to b (λ x e. inl (s.roots root.0 x (sym h.0 ∙ e))))
-  effect_sound (call.Retain reg) (reply.Number k) a free rests h = subst Sound (sym h.1) (counted (z.registers t reg) k rests)
-  effect_sound (call.Release reg) (reply.Number k) a free rests h = subst Sound (sym h.1) (counted (z.registers t reg) k (released reg k h.0))
-  effect_sound (call.Count reg) (reply.Number k) a free rests h = subst Sound (sym h.1) s
-  effect_sound (call.Take to id) (reply.Block i) a free rests h = subst Sound (sym h.1) (register_sound z s t to i (λ x e. inl (subst (λ y. IsTrue (is_escaped z y)) (some_id id x (sym h.0 ∙ e)) (s.counts id rests))))
-  effect_sound (call.SetAssoc object key value) (reply.Block b) a free rests h = subst Sound (sym h.1) (associated (z.registers t object) (z.registers t value) key.0 rests.0 rests.1)
-  effect_sound (call.GetAssoc to object key) (reply.Block b) a free rests h = subst Sound (sym h.1) (register_sound z s t to b (λ x e. inl (got_assoc (z.registers t object) key.0 x (sym h.0 ∙ e))))
-  effect_sound (call.SetWeak loc from) (reply.Block v) a free rests h = subst Sound (sym h.1) (shown loc (z.registers t from) v h.0 rests.0 rests.1)
-  effect_sound (call.ReadWeak to loc) (reply.Block b) a free rests h = subst Sound (sym h.1) (register_sound z s t to b (λ x e. inl (read (weak_loc z t loc) x (sym h.0 ∙ e))))
-  effect_sound call.Stats (reply.Stats k) a free rests h = subst Sound (sym h.1) s
-  effect_sound (call.Begin mode) reply.Begun a free rests h = subst Sound (sym h.1) (begin_sound z s t mode)
-  effect_sound call.Condemn (reply.Condemned r) a free rests h = subst Sound (sym h.4) (condemn_sound z s h.0 r.list h.1.0 h.3)
-  effect_sound call.Finalise (reply.Finalised b) a free rests h = subst Sound (sym h.3) (finalise_sound z s b (condemned_out z s t h.0 h.1 b (found_among _ h.0 b h.2)).1)
-  effect_sound call.Reclaim (reply.Settled gone kept) a free rests h = subst Sound (sym h.does) (reclaim_sound z s t gone.list kept.list a h)
-  effect_sound call.Leave (reply.Reclaimed gone) a free rests h = subst Sound (sym h.does) (leave_sound z s t gone.list h.gone_ones)
-  effect_sound _ _ a free rests h = absurd h
-
-happens_sound : (z : State) (t : ℕ) (c : Call) (r : Reply) (a : State) → Sound z → get z.blocks (id_of t (z.serials t)) ≡ None → Rests z t c → Happens z t c r a → Sound a
-happens_sound z t c reply.Busy a s free rests h = subst Sound (sym h.1) s
-happens_sound z t c r a s free rests h = subst Sound (sym h.2) (seen_sound h.0 (effect_sound z s t c r h.0 free rests h.1))
-
--- a step keeps a state sound
-pub step_sound : (z : State) (e : Entry) (after : State) → Sound z → AllMade z → Step z e after → Sound after
-step_sound z e after s made k = by_misuse (misuse_of z e.thread e.call k.need) refl k.does
-  where
-    by_misuse : (m : Option Misuse) → misuse_of z e.thread e.call k.need ≡ m → MatchOption m (Happens (with_escaped z k.need) e.thread e.call e.reply after) (λ m. (e.reply ≡ reply.Misuse m) × (after ≡ z)) → Sound after
-    by_misuse None right h =
-        happens_sound (with_escaped z k.need) e.thread e.call e.reply after (escape_sound z s e.thread e.call k.need k.needed right)
-        (escaped_made z k.need e.thread (next_free z made e.thread)) (call_rests z s e.thread k.need e.call k.needed right) h
-    by_misuse (Some m) right h = subst Sound (sym h.1) s
-
-pub run_sound : (z : State) (es : List Entry) (after : State) → Sound z → AllMade z → Run z es after → Sound after × AllMade after
-run_sound z [] after s made run = (subst Sound (sym run) s, subst AllMade (sym run) made)
-run_sound z (e ∷ es) after s made run = run_sound run.0 es after (step_sound z e run.0 s made run.1) (step_made z e run.0 run.1 made) run.2
-
-nothing_there : {X : Type 0} (o : Option X) → o ≡ None → (x : X) → o ≡ Some x → ⊥
-nothing_there o e x h = let no : None ≡ Some x = sym e ∙ h in cc (no)
-
-pub opening_sound : (o : Options) → Sound (opening o)
-opening_sound o = record {
-  registers = λ t r b h. cc (h);
-  roots = λ g b h. cc (h);
-  words = λ a b e. absurd (nothing_there _ (get-empty id_cmp a) e.0 e.2);
-  counts = λ b h. let zero : count_of (opening o) b ≡ 0 = ap (λ o. unwrap_or o 0) (get-empty id_cmp b) in absurd (omega (arith, h, zero));
-  objects = λ a k b h. absurd (nothing_there _ (get-empty pair_cmp (a, k)) b h);
-  values = λ a k b h. absurd (nothing_there _ (get-empty pair_cmp (a, k)) b h);
-  shown = λ l b h. absurd (nothing_there _ (get-empty loc_cmp l) b h);
-  showing = λ a at b h. absurd (nothing_there _ (get-empty loc_cmp (weak.Word a at)) b h);
-  started = λ b h. cc (h);
-  condemned = λ b h. cc (h);
-  cleared = λ l b h. refl;
-  fits = let none : used_quanta (opening o) ≡ 0 = total-empty id_cmp _ in omega (arith, none);
+pub sound_fits : (z : State) → Sound z → AllFit z
+sound_fits z s q b h = record {
+  since = λ n is. s.numbers.since q n (ap (λ (o : Option Block). option_and_then (λ (b : Block). b.since) o) h ∙ is);
+  inert = s.unescaped q b h;
 }
 
-pub ends_sound : (o : Options) (history : List Entry) (z : State) → Ends o history z → Sound z × AllMade z
-ends_sound o history z ends = run_sound (opening o) history z (opening_sound o) (opening_made o) ends
+escaped_there : (o : Option Block) → IsTrue (is_some (option_and_then (λ (b : Block). b.since) o)) → IsTrue (is_some o)
+escaped_there None h = h
+escaped_there (Some b) h = refl
+
+-- what the open cycle speaks of had escaped when it began
+of_started : (z : State) → Sound z → (b : BlockId) → IsTrue (is_of z.cycle b) → IsTrue (is_started z b)
+of_started z s b h = go z.cycle refl h
+  where
+    or_cases : (a b : Bool) → (a || b) ≡ true → (a ≡ true) ⊎ (b ≡ true)
+    or_cases true b h = inl refl
+    or_cases false b h = inr h
+
+    go : (o : Option Cycle) → z.cycle ≡ o → is_of o b ≡ true → is_started z b ≡ true
+    go None e h = cc (h)
+    go (Some c) e h = elim (or_cases (c.start b) _ h) [
+      | inl i ↦ ap (λ o. option_map_or (λ (c : Cycle). c.start b) o false) e ∙ i
+      | inr i ↦ s.cycle.condemned b (ap (λ (o : Option Cycle). option_map_or (λ r. among r b) (option_and_then (λ (c : Cycle). c.condemned) o) false) e ∙ i)
+    ]
+
+pub sound_made : (z : State) → Sound z → AllMade z
+sound_made z s b (inl here) = s.numbers.serials b here
+sound_made z s b (inr is) = s.numbers.serials b (escaped_there (get z.blocks b) (s.cycle.started b (of_started z s b is)))
+
+some_number : (a b : ℕ) → Some a ≡ Some b → a ≡ b
+some_number a b h = cc
+
+-- and put together
+pub sound_of : (z : State) → Intact z → AllFit z → AllMade z → OpenReached z → Sound z
+sound_of z i fits made reached = record {
+  names = i.names;
+  numbers = record {
+    used = i.used;
+    since = λ b n h. since_at b n (get z.blocks b) refl h;
+    serials = λ b here. made b (inl here);
+  };
+  unescaped = λ q b h. (fits q b h).inert;
+  cycle = i.cycle;
+  reached = reached;
+}
+  where
+    since_at : (b : BlockId) (n : ℕ) (o : Option Block) → get z.blocks b ≡ o → option_and_then (λ (k : Block). k.since) o ≡ Some n → n ≤ z.reclaims
+    since_at b n None e h = cc (h)
+    since_at b n (Some k) e h = (fits b k e).since n h
+
+pub step_sound : (z : State) (e : Entry) (after : State) → Sound z → Step z e after → Sound after
+step_sound z e after s k =
+    let i = sound_intact z s in
+    let m = sound_made z s in
+    sound_of after (step_intact z e after i m k) (step_fits z e after i (sound_fits z s) k) (step_made z e after k m) (step_reached z e after i s.reached k)
+
+pub opening_sound : (o : Options) → Sound (opening o)
+opening_sound o = sound_of (opening o) (opening_intact o) (opening_fits o) (opening_made o) (λ c is uncondemned. let no : None ≡ Some c = is in cc (no))
+
+pub run_sound : (z : State) (es : List Entry) (last : State) → Sound z → Run z es last → Sound last
+run_sound z [] last s run = subst Sound (sym run) s
+run_sound z (e ∷ es) last s run = run_sound run.0 es last (step_sound z e run.0 s run.1) run.2
+
+pub ends_sound : (o : Options) (history : List Entry) (z : State) → Ends o history z → Sound z
+ends_sound o history z ends = run_sound (opening o) history z (opening_sound o) ends
+
+-- the law Reached
+pub reached_law : (o : Options) (history : List Entry) (z : State) (c : Cycle) (a b : BlockId) → Ends o history z → z.cycle ≡ Some c → c.condemned ≡ None → IsReached c a ⊎ IsFalse (c.start a) → Edge z a b → IsTrue (c.start b) → IsReached c b
+reached_law o history z c a b ends is uncondemned from edge start =
+    let keeps = (ends_sound o history z ends).reached c is uncondemned in
+    (start, elim from [ inl reached ↦ keeps.on a b reached.1 edge start | inr out ↦ keeps.outside a b out edge start ])

@@ -15,11 +15,11 @@ use Rattle.zone_model.specs.Escape.{Tells}
 use Rattle.zone_model.specs.History.{Run, Ends, Legal}
 use Rattle.zone_model.specs.Part.{Part, part_of, is_local, leave_part, part_after, NeedWithin, PartStep, PartRun}
 use Rattle.zone_model.proofs.Made.{AllMade, step_made}
-use Rattle.zone_model.specs.Sound.{Sound}
+use Rattle.zone_model.proofs.Intact.{Intact}
 use Rattle.zone_model.specs.LocalSteps.{LocalStep, LocalRun, Replies, misuse_within}
 use Rattle.zone_model.specs.Waits.{Waiter, Waits, Others, waiting_of}
 use Rattle.zone_model.proofs.Blocks.{left_get}
-use Rattle.zone_model.proofs.Soundness.{step_sound, ends_sound}
+use Rattle.zone_model.proofs.IntactSteps.{step_intact, ends_intact}
 use Rattle.zone_model.proofs.PartSteps.{step_others}
 use Rattle.zone_model.specs.SameShared.{SameShared}
 use Rattle.zone_model.proofs.LocalCalls.{local_step}
@@ -34,17 +34,17 @@ run_append z (e ∷ es) mid later after r s = (r.0, r.1, run_append r.0 es mid l
 pub record Reaches (z : State) (t : ℕ) (es : List Entry) (last : Part) : Type 0 where
   pub after : State
   pub run : Run z es after
-  pub sound : Sound after
+  pub sound : Intact after
   pub made : AllMade after
   pub part : part_of after t ≡ last
   pub others : (u : ℕ) → (t == u) ≡ false → part_of after u ≡ part_of z u
   pub shared : SameShared z after
 
-pub local_run : (z : State) (t : ℕ) (es : List Entry) (last : Part) → Sound z → AllMade z → LocalRun (part_of z t) t es last → Reaches z t es last
+pub local_run : (z : State) (t : ℕ) (es : List Entry) (last : Part) → Intact z → AllMade z → LocalRun (part_of z t) t es last → Reaches z t es last
 local_run z t [] last s made run = record { after = z; run = refl; sound = s; made = made; part = sym run; others = λ u other. refl; shared = same_shared z t }
 local_run z t (e ∷ es) last s made run =
     let first = local_step z s made t e run.0 run.1 in
-    let rest = local_run first.0 t es last (step_sound z e first.0 s made first.1) (step_made z e first.0 first.1 made) (subst (λ p. LocalRun p t es last) (sym first.2) run.2) in
+    let rest = local_run first.0 t es last (step_intact z e first.0 s made first.1) (step_made z e first.0 first.1 made) (subst (λ p. LocalRun p t es last) (sym first.2) run.2) in
     record {
       after = rest.after;
       run = (first.0, first.1, rest.run);
@@ -59,12 +59,12 @@ local_run z t (e ∷ es) last s made run =
 pub waiting_legal : (o : Options) (history : List Entry) (z : State) (t : ℕ) (es : List Entry) (last : Part) → Ends o history z → LocalRun (part_of z t) t es last
     → (after : State) × Ends o (history ++ es) after × (part_of after t ≡ last) × ((u : ℕ) → (t == u) ≡ false → part_of after u ≡ part_of z u) × SameShared z after
 waiting_legal o history z t es last ends run =
-    let sound = ends_sound o history z ends in
+    let sound = ends_intact o history z ends in
     let reached = local_run z t es last sound.0 sound.1 run in
     (reached.after, run_append (opening o) history z es reached.after ends reached.run, reached.part, reached.others, reached.shared)
 
 -- and so are those of all threads, in any order of the threads
-pub all_waiting : (z : State) (ws : List Waiter) → Sound z → AllMade z → Waits z ws → (after : State) × Run z (waiting_of ws) after
+pub all_waiting : (z : State) (ws : List Waiter) → Intact z → AllMade z → Waits z ws → (after : State) × Run z (waiting_of ws) after
 all_waiting z [] s made waits = (z, refl)
 all_waiting z (w ∷ ws) s made waits =
     let first = local_run z w.0 w.1 waits.0.0 s made waits.0.1 in
@@ -77,7 +77,7 @@ all_waiting z (w ∷ ws) s made waits =
 
 pub all_waiting_legal : (o : Options) (history : List Entry) (z : State) (ws : List Waiter) → Ends o history z → Waits z ws → Legal o (history ++ waiting_of ws)
 all_waiting_legal o history z ws ends waits =
-    let sound = ends_sound o history z ends in
+    let sound = ends_intact o history z ends in
     let reached = all_waiting z ws sound.0 sound.1 waits in
     (reached.0, run_append (opening o) history z (waiting_of ws) reached.0 ends reached.1)
 

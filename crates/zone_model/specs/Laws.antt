@@ -7,7 +7,7 @@ use Rattle.az_base.specs.Ids.{among}
 use Rattle.zone_model.specs.declared.entry.Entry.{Entry}
 use Rattle.zone_model.specs.State.{State, Cycle}
 use Rattle.zone_model.specs.Reach.{Edge}
-use Rattle.zone_model.specs.Collection.{WasAnchored, HasCycle, awaits}
+use Rattle.zone_model.specs.Collection.{IsReached, HasCycle, awaits}
 use Rattle.zone_model.specs.History.{Run, Ends, entries_of}
 use Rattle.zone_model.specs.Part.{part_of, Solo}
 use Rattle.zone_model.specs.Sound.{Sound}
@@ -20,10 +20,10 @@ Parts = (o : Options) (history : List Entry) (z : State) (t : ℕ) → Ends o hi
 abbrev pub Whole : Type 0
 Whole = (o : Options) (history : List Entry) (z : State) → Ends o history z → Sound z
 
--- Reached: while a cycle is open and not condemned, what a block that was anchored, or a block from outside the start, refers to was anchored
+-- Reached: while a cycle is open and not condemned, what a reached block, or a block from outside the start, refers to is reached
 abbrev pub Reached : Type 0
 Reached = (o : Options) (history : List Entry) (z : State) (c : Cycle) (a b : BlockId) → Ends o history z → z.cycle ≡ Some c → c.condemned ≡ None
-    → (IsTrue (c.start a) × WasAnchored c a) ⊎ IsFalse (c.start a) → Edge z a b → IsTrue (c.start b) → WasAnchored c b
+    → IsReached c a ⊎ IsFalse (c.start a) → Edge z a b → IsTrue (c.start b) → IsReached c b
 
 -- two cycles are one, but for what they have seen
 pub record SameCycle (y z : State) (c d : Cycle) : Type 0 where

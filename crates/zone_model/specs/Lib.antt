@@ -14,6 +14,7 @@ pub mod Part
 pub mod LocalSteps
 pub mod SameShared
 pub mod Waits
+pub mod Reached
 pub mod Sound
 pub mod Laws
 pub mod WeakShows

@@ -1,4 +1,4 @@
-use Rattle.zone_model.proofs.Reaching.{reached_law}
+use Rattle.zone_model.proofs.Soundness.{reached_law}
 use Rattle.zone_model.proofs.laws.cycles.edges_stay_among_the_reached.Goals as goal
 
 pub returns : goal.returns

@@ -2,4 +2,4 @@ use Rattle.zone_model.proofs.Soundness.{ends_sound}
 use Rattle.zone_model.proofs.laws.soundness.states_are_sound.Goals as goal
 
 pub returns : goal.returns
-returns c = λ o history z ends. (ends_sound o history z ends).0
+returns c = ends_sound

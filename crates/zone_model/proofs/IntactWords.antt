@@ -15,9 +15,10 @@ use Rattle.zone_model.specs.State.{State, Block, Cycle, moment, with_edit, with_
 use Rattle.zone_model.specs.Quanta.{used_quanta}
 use Rattle.zone_model.specs.Reach.{WordEdge}
 use Rattle.zone_model.specs.Step.{seen_now, with_moment}
-use Rattle.zone_model.specs.Sound.{Sound, Knows, MayRefer}
+use Rattle.zone_model.specs.Sound.{Knows, MayRefer}
+use Rattle.zone_model.proofs.Intact.{Intact}
 use Rattle.zone_model.proofs.Blocks.{not_both, own_inside, own_thread, edit_get, edit_standing, set_or_was, SameStanding}
-use Rattle.zone_model.proofs.SoundChanges.{start_of, condemned_of, cycle_sound, grown_sound}
+use Rattle.zone_model.proofs.IntactChanges.{start_of, condemned_of, cycle_intact, grown_intact}
 
 some_block : (a b : BlockId) → Some a ≡ Some b → a ≡ b
 some_block a b h = cc
@@ -48,10 +49,10 @@ pub edge_out : (z : State) (a b : BlockId) → IsTrue (is_escaped z a) → MayRe
 edge_out z a b out (inl there) = there
 edge_out z a b out (inr inside) = absurd (not_both (get z.blocks a) out inside.0)
 
-pub load_known : (z : State) → Sound z → (t r at : ℕ) (v : Option BlockId) → v ≡ referent (word_at z (z.registers t r) at) → (b : BlockId) → v ≡ Some b → Knows z t b
+pub load_known : (z : State) → Intact z → (t r at : ℕ) (v : Option BlockId) → v ≡ referent (word_at z (z.registers t r) at) → (b : BlockId) → v ≡ Some b → Knows z t b
 load_known z s t r at v is b h =
     let edge = referred z (z.registers t r) at b (sym is ∙ h) in
-    edge_known z t edge.0 b (s.registers t r edge.0 edge.1) (s.words edge.0 b edge.2)
+    edge_known z t edge.0 b (s.names.registers t r edge.0 edge.1) (s.names.words edge.0 b edge.2)
 
 pub sum_edited : (f : BlockId → Block → ℕ) (m : FinMap id_cmp Block) (id : BlockId) (g : Block → Block) → ((k : Block) → f id (g k) ≡ f id k) → total f (with_edit m id g) ≡ total f m
 sum_edited f m id g same = go (get m id) refl
@@ -64,13 +65,13 @@ sum_edited f m id g same = go (get m id) refl
         let is : f id (g k) ≡ f id k = same k in
         omega arith
 
-module _ (z : State) (s : Sound z) where
+module _ (z : State) (s : Intact z) where
   -- an edit of a block that keeps its standing, and has no word but those that it may have
-  pub edited_sound : (id : BlockId) (f : Block → Block) → ((k : Block) → (f k).since ≡ k.since) → ((k : Block) → (f k).layout ≡ k.layout)
-      → ((k : Block) (i : ℕ) (b : BlockId) → get z.blocks id ≡ Some k → slice_get (f k).words i ≡ Some (word.Block b) → MayRefer z id b) → Sound (record z { blocks = with_edit z.blocks id f })
-  edited_sound id f since layout words =
-      grown_sound z s after.blocks (λ b h. (standing b).0 ∙ h) (λ t b h. inr (own t b h)) edges
-      (let same : used_quanta after ≡ used_quanta z = sum_edited (λ id b. cond (is_some b.since) (quanta (len_of b.layout)) 0) z.blocks id f (λ k i. cond (is_some (since k i)) (quanta (len_of (layout k i))) 0) in omega (arith, same, s.fits))
+  pub edited_intact : (id : BlockId) (f : Block → Block) → ((k : Block) → (f k).since ≡ k.since) → ((k : Block) → (f k).layout ≡ k.layout)
+      → ((k : Block) (i : ℕ) (b : BlockId) → get z.blocks id ≡ Some k → slice_get (f k).words i ≡ Some (word.Block b) → MayRefer z id b) → Intact (record z { blocks = with_edit z.blocks id f })
+  edited_intact id f since layout words =
+      grown_intact z s after.blocks (λ b h. (standing b).0 ∙ h) (λ t b h. inr (own t b h)) edges
+      (let same : used_quanta after ≡ used_quanta z = sum_edited (λ id b. cond (is_some b.since) (quanta (len_of b.layout)) 0) z.blocks id f (λ k i. cond (is_some (since k i)) (quanta (len_of (layout k i))) 0) in omega (arith, same, s.used))
     where
       after : State
       after = record z { blocks = with_edit z.blocks id f }
@@ -95,25 +96,25 @@ module _ (z : State) (s : Sound z) where
               subst (λ x. MayRefer z x b) (sym same) (words k e.1 b (ap (get z.blocks) (sym same) ∙ is) (ap (λ (y : Block). slice_get y.words e.1) edited ∙ e.3))
 
           at : (r : Ordering) → id_cmp a id ≡ r → cond (is_eq r) (option_map f (get z.blocks a)) (get z.blocks a) ≡ Some e.0 → MayRefer z a b
-          at Less d h = s.words a b (e.0, e.1, h, e.3)
+          at Less d h = s.names.words a b (e.0, e.1, h, e.3)
           at Equal d h = found (get z.blocks a) refl (exact_ids a id d) h
-          at Greater d h = s.words a b (e.0, e.1, h, e.3)
+          at Greater d h = s.names.words a b (e.0, e.1, h, e.3)
 
   -- a word of a block that is there refers to what it may
-  word_sound : (a : Option BlockId) (at : ℕ) (w : Word) → ((id b : BlockId) → a ≡ Some id → w ≡ word.Block b → MayRefer z id b) → Sound (with_word z a at w)
-  word_sound None at w may = s
-  word_sound (Some id) at w may = edited_sound id (λ k. record k { words = slice_set k.words at w }) (λ k. refl) (λ k. refl) (λ k i b is h. by_word k i b is (set_or_was k.words at w i (word.Block b) h))
+  word_intact : (a : Option BlockId) (at : ℕ) (w : Word) → ((id b : BlockId) → a ≡ Some id → w ≡ word.Block b → MayRefer z id b) → Intact (with_word z a at w)
+  word_intact None at w may = s
+  word_intact (Some id) at w may = edited_intact id (λ k. record k { words = slice_set k.words at w }) (λ k. refl) (λ k. refl) (λ k i b is h. by_word k i b is (set_or_was k.words at w i (word.Block b) h))
     where
       by_word : (k : Block) (i : ℕ) (b : BlockId) → get z.blocks id ≡ Some k → (w ≡ word.Block b) ⊎ (slice_get k.words i ≡ Some (word.Block b)) → MayRefer z id b
       by_word k i b is (inl e) = may id b refl e
-      by_word k i b is (inr e) = s.words id b (k, i, is, e)
+      by_word k i b is (inr e) = s.names.words id b (k, i, is, e)
 
-  pub put_sound : (a : Option BlockId) (at n : ℕ) → Sound (with_word z a at (word.Number n))
-  put_sound a at n = word_sound a at (word.Number n) (λ id b h e. cc (e))
+  pub put_intact : (a : Option BlockId) (at n : ℕ) → Intact (with_word z a at (word.Number n))
+  put_intact a at n = word_intact a at (word.Number n) (λ id b h e. cc (e))
 
   -- a thread stores what it knows into a block that it knows
-  pub store_sound : (t into at from : ℕ) → ((a b : BlockId) → z.registers t into ≡ Some a → IsTrue (is_escaped z a) → z.registers t from ≡ Some b → IsTrue (is_escaped z b)) → Sound (with_word z (z.registers t into) at (reference (z.registers t from)))
-  store_sound t into at from rests = word_sound (z.registers t into) at (reference (z.registers t from)) may
+  pub store_intact : (t into at from : ℕ) → ((a b : BlockId) → z.registers t into ≡ Some a → IsTrue (is_escaped z a) → z.registers t from ≡ Some b → IsTrue (is_escaped z b)) → Intact (with_word z (z.registers t into) at (reference (z.registers t from)))
+  store_intact t into at from rests = word_intact (z.registers t into) at (reference (z.registers t from)) may
     where
       held : (v : Option BlockId) (b : BlockId) → reference v ≡ word.Block b → v ≡ Some b
       held None b h = cc (h)
@@ -125,28 +126,28 @@ module _ (z : State) (s : Sound z) where
       both a b (inr own) (inr mine) there = inr (own_inside z t a own, subst (λ u. IsTrue (is_own z u b)) (sym (own_thread z t a own)) mine)
 
       may : (a b : BlockId) → z.registers t into ≡ Some a → reference (z.registers t from) ≡ word.Block b → MayRefer z a b
-      may a b h e = let v = held (z.registers t from) b e in both a b (s.registers t into a h) (s.registers t from b v) (λ out. rests a b h out v)
+      may a b h e = let v = held (z.registers t from) b e in both a b (s.names.registers t into a h) (s.names.registers t from b v) (λ out. rests a b h out v)
 
   -- serials, ends and the number of Reclaims are free
-  pub other_sound : (serials : ℕ → ℕ) (ended : ℕ → Bool) (reclaims : ℕ) → Sound (record z { serials = serials; ended = ended; reclaims = reclaims })
-  other_sound serials ended reclaims = record {
-    registers = s.registers;
-    roots = s.roots;
-    words = s.words;
-    counts = s.counts;
-    objects = s.objects;
-    values = s.values;
-    shown = s.shown;
-    showing = s.showing;
-    started = s.started;
-    condemned = s.condemned;
-    cleared = s.cleared;
-    fits = s.fits;
+  pub other_intact : (serials : ℕ → ℕ) (ended : ℕ → Bool) (reclaims : ℕ) → Intact (record z { serials = serials; ended = ended; reclaims = reclaims })
+  other_intact serials ended reclaims = record {
+    names = record {
+      registers = s.names.registers;
+      roots = s.names.roots;
+      words = s.names.words;
+      counts = s.names.counts;
+      objects = s.names.objects;
+      values = s.names.values;
+      shown = s.names.shown;
+      showing = s.names.showing;
+    };
+    cycle = record { started = s.cycle.started; condemned = s.cycle.condemned; cleared = s.cycle.cleared };
+    used = s.used;
   }
 
   -- an open cycle sees the state
-  pub seen_sound : Sound (seen_now z)
-  seen_sound = cycle_sound z s (option_map (with_moment (moment z)) z.cycle) (λ b h. s.started b (sym (start_same z.cycle b) ∙ h)) (λ b h. start_same z.cycle b ∙ s.condemned b (sym (condemned_same z.cycle b) ∙ h)) (λ l b h. condemned_same z.cycle b ∙ s.cleared l b h)
+  pub seen_intact : Intact (seen_now z)
+  seen_intact = cycle_intact z s (option_map (with_moment (moment z)) z.cycle) (λ b h. s.cycle.started b (sym (start_same z.cycle b) ∙ h)) (λ b h. start_same z.cycle b ∙ s.cycle.condemned b (sym (condemned_same z.cycle b) ∙ h)) (λ l b h. condemned_same z.cycle b ∙ s.cycle.cleared l b h)
     where
       start_same : (c : Option Cycle) (b : BlockId) → start_of (option_map (with_moment (moment z)) c) b ≡ start_of c b
       start_same None b = refl

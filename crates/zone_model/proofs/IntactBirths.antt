@@ -20,10 +20,11 @@ use Rattle.zone_model.specs.Quanta.{used_quanta, is_born_escaped}
 use Rattle.zone_model.specs.Reach.{WordEdge}
 use Rattle.zone_model.specs.Effect.{new_block, with_new}
 use Rattle.zone_model.proofs.Births.{used_added}
-use Rattle.zone_model.specs.Sound.{Sound, Knows, MayRefer}
+use Rattle.zone_model.specs.Sound.{Knows, MayRefer}
+use Rattle.zone_model.proofs.Intact.{Intact}
 use Rattle.zone_model.proofs.Blocks.{is_out, is_inside, out_or_inside, both_true, there_out, there_inside, own_inside}
-use Rattle.zone_model.proofs.SoundChanges.{grown_sound, register_sound}
-use Rattle.zone_model.proofs.SoundWords.{other_sound}
+use Rattle.zone_model.proofs.IntactChanges.{grown_intact, register_intact}
+use Rattle.zone_model.proofs.IntactWords.{other_intact}
 
 only_that : (n i : ℕ) (w v : Word) → slice_get (replicate n w) i ≡ Some v → w ≡ v
 only_that zero i w v h = cc
@@ -52,7 +53,7 @@ some_block a b h = cc
 some_id : (a b : BlockId) → Some a ≡ Some b → a ≡ b
 some_id a b h = cc
 
-module _ (z : State) (s : Sound z) (t to : ℕ) (l : Layout) (actions : List Action) (none : get z.blocks (id_of t (z.serials t)) ≡ None) where
+module _ (z : State) (s : Intact z) (t to : ℕ) (l : Layout) (actions : List Action) (none : get z.blocks (id_of t (z.serials t)) ≡ None) where
   abbrev id : BlockId
   id = id_of t (z.serials t)
 
@@ -92,20 +93,20 @@ module _ (z : State) (s : Sound z) (t to : ℕ) (l : Layout) (actions : List Act
       at Greater h = (e.0, e.1, h, e.3)
 
   edges : (a b : BlockId) → WordEdge with.blocks a b → MayRefer with a b
-  edges a b e = let edge = old_edge a b e in by_end edge (s.words a b edge)
+  edges a b e = let edge = old_edge a b e in by_end edge (s.names.words a b edge)
     where
       by_end : WordEdge z.blocks a b → MayRefer z a b → MayRefer with a b
       by_end edge (inl there) = inl (out b there)
       by_end edge (inr inside) = inr (ap is_inside (as_was a (ap is_some edge.2)) ∙ inside.0, own a.thread b inside.1)
 
-  block_sound : used_quanta z + cond (is_born_escaped z t l actions) (quanta (len_of l)) 0 ≤ z.options.heap_quanta → Sound with
-  block_sound fits =
-      grown_sound z s with.blocks out (λ u q h. inr (own u q h)) edges
+  block_intact : used_quanta z + cond (is_born_escaped z t l actions) (quanta (len_of l)) 0 ≤ z.options.heap_quanta → Intact with
+  block_intact fits =
+      grown_intact z s with.blocks out (λ u q h. inr (own u q h)) edges
       (let added : used_quanta with ≡ used_quanta z + cond (is_born_escaped z t l actions) (quanta (len_of l)) 0 = used_added z t to l actions none in omega (arith, added, fits))
 
   known : Knows with t id
   known = elim (out_or_inside (get with.blocks id) new is_new) [ inl e ↦ inl e | inr e ↦ inr (both_true (t == t) (is_inside (get with.blocks id)) (eq-eqb t t refl) e) ]
 
-  pub new_sound : used_quanta z + cond (is_born_escaped z t l actions) (quanta (len_of l)) 0 ≤ z.options.heap_quanta → Sound (with_new z t to l actions)
-  new_sound fits =
-      register_sound (with_next_serial with t) (other_sound with (block_sound fits) (with_next_serial with t).serials with.ended with.reclaims) t to (Some id) (λ b h. subst (Knows with t) (some_id id b h) known)
+  pub new_intact : used_quanta z + cond (is_born_escaped z t l actions) (quanta (len_of l)) 0 ≤ z.options.heap_quanta → Intact (with_new z t to l actions)
+  new_intact fits =
+      register_intact (with_next_serial with t) (other_intact with (block_intact fits) (with_next_serial with t).serials with.ended with.reclaims) t to (Some id) (λ b h. subst (Knows with t) (some_id id b h) known)

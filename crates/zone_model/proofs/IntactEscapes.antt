@@ -1,5 +1,5 @@
 -- An escape keeps a state sound, and what a call then needs has escaped
-use Rattle.std.proofs.Common.{◌≡◌, ◌<◌, ◌≤◌, ◌+◌, ℕ, ◌==◌, Bool, true, false, cond, nat_lt, ◌&&◌, List, [], ◌∷◌, ◌++◌, Option, Some, None, IsTrue, refl, sym, ap, subst, ◌∙◌, ◌⊎◌, inl, inr, is_some, slice_get, arith}
+use Rattle.std.proofs.Common.{◌≡◌, ◌<◌, ◌≤◌, ◌+◌, ℕ, ◌==◌, Bool, true, false, cond, nat_lt, ◌&&◌, [], ◌∷◌, ◌++◌, Option, Some, None, IsTrue, refl, sym, ap, subst, ◌∙◌, ◌⊎◌, inl, inr, is_some, slice_get, arith}
 use Rattle.std.proofs.lemmas.Bool.Decides.{nat_tests}
 use Rattle.std.specs.FinMap.{get}
 use Rattle.az_base.specs.declared.block_id.BlockId.{BlockId}
@@ -11,19 +11,17 @@ use Rattle.zone_model.specs.declared.call.Call.TheVariants as call
 use Rattle.zone_model.specs.declared.call.Loc.{Loc}
 use Rattle.zone_model.specs.declared.call.Loc.TheVariants as loc
 use Rattle.zone_model.specs.State.{State, is_escaped, is_unescaped, is_own, count_of}
-use Rattle.zone_model.specs.Reach.{Edge, WordEdge, Path}
+use Rattle.zone_model.specs.Reach.{Edge, WordEdge}
 use Rattle.zone_model.specs.Escape.{EscOf, HoldsEscaped, Need, Tells, with_escaped, block_named}
 use Rattle.zone_model.specs.Quanta.{used_quanta, quanta_needed, is_born_escaped}
 use Rattle.zone_model.specs.Misuses.{misuse_of, first_of, is_overfull, null_block, no_word, wrong_class, over_release, count_full, serials_used, zone_full, not_held}
 use Rattle.zone_model.proofs.Steps.{none_escaped, tells_none}
-use Rattle.zone_model.specs.Sound.{Sound, Knows, MayRefer}
+use Rattle.zone_model.specs.Sound.{Knows, MayRefer}
+use Rattle.zone_model.proofs.Intact.{Intact}
+use Rattle.zone_model.proofs.Paths.{path_more}
 use Rattle.zone_model.proofs.Blocks.{is_inside, not_both, there_inside, own_inside, found_escaped, still_escaped, now_escaped, not_needed}
 use Rattle.zone_model.proofs.Sums.{escaped_used, total_nothing}
-use Rattle.zone_model.proofs.SoundChanges.{grown_sound}
-
-pub path_more : (E : BlockId → BlockId → Type 0) (a : BlockId) (steps : List BlockId) (b c : BlockId) → Path E a steps b → E b c → Path E a (steps ++ c ∷ []) c
-path_more E a [] b c p e = (subst (λ x. E x c) (sym p) e, refl)
-path_more E a (d ∷ steps) b c p e = (p.0, path_more E d steps b c p.1 e)
+use Rattle.zone_model.proofs.IntactChanges.{grown_intact}
 
 esc_of_more : (z : State) (o : Option BlockId) (a b : BlockId) → EscOf z o a → Edge z a b → IsTrue (is_unescaped z b) → EscOf z o b
 esc_of_more z None a b esc e own = esc
@@ -80,7 +78,7 @@ none_needed z = total_nothing ids_total exact_ids z.blocks
 below : (a b : ℕ) → nat_lt b a ≡ false → a ≤ b
 below a b h = grind (arith, nat_tests)
 
-module _ (z : State) (s : Sound z) (t : ℕ) (c : Call) (need : BlockId → Bool) (tells : Tells need (Need z t c)) (right : misuse_of z t c need ≡ None) where
+module _ (z : State) (s : Intact z) (t : ℕ) (c : Call) (need : BlockId → Bool) (tells : Tells need (Need z t c)) (right : misuse_of z t c need ≡ None) where
   -- what escapes fits
   needed_fits : used_quanta z + quanta_needed z need ≤ z.options.heap_quanta
   needed_fits = by_call c tells right
@@ -89,7 +87,7 @@ module _ (z : State) (s : Sound z) (t : ℕ) (c : Call) (need : BlockId → Bool
       full h = below (used_quanta z + quanta_needed z need) z.options.heap_quanta h
 
       nothing : need ≡ (λ _. false) → used_quanta z + quanta_needed z need ≤ z.options.heap_quanta
-      nothing none = let zero : quanta_needed z need ≡ 0 = ap (quanta_needed z) none ∙ none_needed z in omega (arith, zero, s.fits)
+      nothing none = let zero : quanta_needed z need ≡ 0 = ap (quanta_needed z) none ∙ none_needed z in omega (arith, zero, s.used)
 
       by_call : (c : Call) → Tells need (Need z t c) → misuse_of z t c need ≡ None → used_quanta z + quanta_needed z need ≤ z.options.heap_quanta
       by_call (call.Store into at from) k r = full (right_full z t (call.Store into at from) need r).0
@@ -116,7 +114,7 @@ module _ (z : State) (s : Sound z) (t : ℕ) (c : Call) (need : BlockId → Bool
   edges a b e =
       let was = found_escaped z need a e.0 e.2 in
       let edge : WordEdge z.blocks a b = (was.0, e.1, was.1, ap (λ ws. slice_get ws e.1) was.2 ∙ e.3) in
-      by_end edge (s.words a b edge)
+      by_end edge (s.names.words a b edge)
     where
       by_need : WordEdge z.blocks a b → IsTrue (is_unescaped z a) → IsTrue (is_own z a.thread b) → (m n : Bool) → need a ≡ m → need b ≡ n → MayRefer after a b
       by_need edge inside own m true f e = inl (now_escaped z need b e (there b e))
@@ -130,8 +128,8 @@ module _ (z : State) (s : Sound z) (t : ℕ) (c : Call) (need : BlockId → Bool
       by_end edge (inl out) = inl (still_escaped z need b out)
       by_end edge (inr own) = by_need edge own.0 own.1 (need a) (need b) refl refl
 
-  pub escape_sound : Sound after
-  escape_sound = grown_sound z s after.blocks (still_escaped z need) still_knows edges (let used : used_quanta after ≡ used_quanta z + quanta_needed z need = escaped_used z need (λ q h. need_inside z t c q ((tells q).0 h)) in omega (arith, used, needed_fits))
+  pub escape_intact : Intact after
+  escape_intact = grown_intact z s after.blocks (still_escaped z need) still_knows edges (let used : used_quanta after ≡ used_quanta z + quanta_needed z need = escaped_used z need (λ q h. need_inside z t c q ((tells q).0 h)) in omega (arith, used, needed_fits))
 
 -- what a call rests on, once the blocks that it needs have escaped
 abbrev pub Rests : State → ℕ → Call → Type 0
@@ -144,7 +142,7 @@ Rests z t (call.SetAssoc object key value) = ((b : BlockId) → z.registers t ob
 Rests z t (call.SetWeak loc from) = ((b : BlockId) → z.registers t from ≡ Some b → IsTrue (is_escaped z b)) × ((b : BlockId) → block_named z t loc ≡ Some b → IsTrue (is_escaped z b))
 Rests z t _ = Unit {0}
 
-module _ (z : State) (s : Sound z) (t : ℕ) (need : BlockId → Bool) where
+module _ (z : State) (s : Intact z) (t : ℕ) (need : BlockId → Bool) where
   -- what a register holds has escaped, where it was needed
   value_escaped : (o : Option BlockId) → ((b : BlockId) → o ≡ Some b → Knows z t b) → ((q : BlockId) → EscOf z o q → need q ≡ true) → (b : BlockId) → o ≡ Some b → IsTrue (is_escaped (with_escaped z need) b)
   value_escaped o knows needed b h = by_knows (knows b h)
@@ -154,14 +152,14 @@ module _ (z : State) (s : Sound z) (t : ℕ) (need : BlockId → Bool) where
       by_knows (inr own) = now_escaped z need b (needed b (subst (λ o. EscOf z o b) (sym h) (own_inside z t b own, ([], refl)))) (there_inside (get z.blocks b) (own_inside z t b own))
 
   in_register : (r : ℕ) → ((q : BlockId) → EscOf z (z.registers t r) q → need q ≡ true) → (b : BlockId) → z.registers t r ≡ Some b → IsTrue (is_escaped (with_escaped z need) b)
-  in_register r needed b h = value_escaped (z.registers t r) (s.registers t r) needed b h
+  in_register r needed b h = value_escaped (z.registers t r) (s.names.registers t r) needed b h
 
   named_knows : (l : Loc) (b : BlockId) → block_named z t l ≡ Some b → Knows z t b
   named_knows (loc.Root w) b h = cc
-  named_knows (loc.Word a at) b h = s.registers t a b h
+  named_knows (loc.Word a at) b h = s.names.registers t a b h
 
   stored : (into at from : ℕ) → Tells need (Need z t (call.Store into at from)) → Rests (with_escaped z need) t (call.Store into at from)
-  stored into at from tells a b ha out hb = by_knows (s.registers t into a ha)
+  stored into at from tells a b ha out hb = by_knows (s.names.registers t into a ha)
     where
       by_need : IsTrue (is_own z t a) → (n : Bool) → need a ≡ n → IsTrue (is_escaped (with_escaped z need) b)
       by_need own true e =
@@ -178,7 +176,7 @@ module _ (z : State) (s : Sound z) (t : ℕ) (need : BlockId → Bool) where
 
   born_fits : (b : Bool) (n : ℕ) → (b && is_overfull z n) ≡ false → used_quanta z + cond b n 0 ≤ z.options.heap_quanta
   born_fits true n h = below (used_quanta z + n) z.options.heap_quanta h
-  born_fits false n h = omega (arith, s.fits)
+  born_fits false n h = omega (arith, s.used)
 
   pub call_rests : (c : Call) → Tells need (Need z t c) → misuse_of z t c need ≡ None → Rests (with_escaped z need) t c
   call_rests (call.New to layout actions) tells right =
