@@ -14,14 +14,15 @@ use Rattle.zone_model.specs.State.{State, Block, with_register, with_root, with_
 use Rattle.zone_model.specs.Quanta.{quanta_where, own_quanta}
 use Rattle.zone_model.specs.Reach.{WordEdge}
 use Rattle.shared_heap.specs.Stands.{Stands, kept_of, escaped_view}
-use Rattle.shared_heap.specs.Whole.{Takes, Whole}
+use Rattle.block_layouts.proofs.Fitting.{set_or_was, set_fits}
+use Rattle.block_layouts.specs.Fitting.{FitsAt, Fits}
 use Rattle.autozone.specs.declared.plain.zone.Own.{Own}
 use Rattle.autozone.specs.declared.plain.zone.Plain.{Plain}
 use Rattle.autozone.specs.Registers.{Hold}
 use Rattle.autozone.specs.Soundness.{IsSound, IsThere}
 use Rattle.autozone.specs.StandsFor.{Shows, StandsFor, seen, unescaped}
 use Rattle.autozone.specs.Words.{SetsWord, put_word}
-use Rattle.autozone.proofs.Editing.{get-edit, total-edit, set_or_was, whole_set}
+use Rattle.autozone.proofs.Editing.{get-edit, total-edit}
 
 -- what the thread has of its own is the same, but for its registers
 pub record SamePart (p n : Plain) : Type 0 where
@@ -206,7 +207,7 @@ module _ (z : State) (id : BlockId) (at : ℕ) (w : Word) where
       go None there is = cc
       go (Some old) there is = one old there (id_cmp id a) refl is
 
-  sound_set : (t : ℕ) → IsSound t z → ((old : Block) → get z.blocks id ≡ Some old → old.since ≡ None → Takes old.layout at w)
+  sound_set : (t : ℕ) → IsSound t z → ((old : Block) → get z.blocks id ≡ Some old → old.since ≡ None → FitsAt old.layout at w)
       → ((b : BlockId) → w ≡ word.Block b → IsThere z b) → ((b : BlockId) → w ≡ word.Block b → IsTrue (is_escaped z id) → IsTrue (is_escaped z b)) → IsSound t after
   sound_set t s takes known shut = record {
     made = λ q h. s.made q (still_there _ (get z.blocks q) (subst IsSome (got q) h));
@@ -227,20 +228,20 @@ module _ (z : State) (id : BlockId) (at : ℕ) (w : Word) where
     limit = s.limit;
   }
     where
-      one : (q : BlockId) (b was : Block) → get z.blocks q ≡ Some was → (r : Ordering) → id_cmp id q ≡ r → Some (cond (is_eq r) (put_word at w was) was) ≡ Some b → b.since ≡ None → Whole b.layout b.words
+      one : (q : BlockId) (b was : Block) → get z.blocks q ≡ Some was → (r : Ordering) → id_cmp id q ≡ r → Some (cond (is_eq r) (put_word at w was) was) ≡ Some b → b.since ≡ None → Fits b.layout b.words
       one q b was is Less c h fresh = s.filled q b (is ∙ h) fresh
       one q b was is Greater c h fresh = s.filled q b (is ∙ h) fresh
       one q b was is Equal c h fresh =
           let same : put_word at w was ≡ b = some_block (put_word at w was) b h in
           let old : was.since ≡ None = ap (λ (k : Block). k.since) same ∙ fresh in
-          subst (λ (k : Block). Whole k.layout k.words) same (whole_set was.layout was.words at w (s.filled q was is old) (takes was (ap (get z.blocks) (exact_ids id q c) ∙ is) old))
+          subst (λ (k : Block). Fits k.layout k.words) same (set_fits was.layout was.words at w (s.filled q was is old) (takes was (ap (get z.blocks) (exact_ids id q c) ∙ is) old))
 
-      fill : (q : BlockId) (b : Block) (o : Option Block) → get z.blocks q ≡ o → option_map (edit_at id at w q) o ≡ Some b → b.since ≡ None → Whole b.layout b.words
+      fill : (q : BlockId) (b : Block) (o : Option Block) → get z.blocks q ≡ o → option_map (edit_at id at w q) o ≡ Some b → b.since ≡ None → Fits b.layout b.words
       fill q b None is h = cc
       fill q b (Some was) is h = one q b was is (id_cmp id q) refl h
 
   -- a word of an unescaped block was set
-  pub word_set : (p n : Plain) (old : Block) → StandsFor p z → SetsWord p n id at w → get z.blocks id ≡ Some old → old.since ≡ None → Takes old.layout at w → ((b : BlockId) → w ≡ word.Block b → IsThere z b) → StandsFor n after
+  pub word_set : (p n : Plain) (old : Block) → StandsFor p z → SetsWord p n id at w → get z.blocks id ≡ Some old → old.since ≡ None → FitsAt old.layout at w → ((b : BlockId) → w ≡ word.Block b → IsThere z b) → StandsFor n after
   word_set p n old s c there own takes known = record {
     shows = record {
       heap = rw c.heap record {
@@ -260,7 +261,7 @@ module _ (z : State) (id : BlockId) (at : ℕ) (w : Word) where
       own = rw c.thread (total-edit ids_total exact_ids _ z.blocks id (put_word at w) (λ b. refl) ∙ s.shows.own ∙ sym c.own);
       running = rw c.thread s.shows.running;
     };
-    sound = rw c.thread (sound_set p.thread s.sound (λ b is fresh. subst (λ (k : Block). Takes k.layout at w) (some_block old b (sym there ∙ is)) takes) known (λ b is out. absurd (not_out out)));
+    sound = rw c.thread (sound_set p.thread s.sound (λ b is fresh. subst (λ (k : Block). FitsAt k.layout at w) (some_block old b (sym there ∙ is)) takes) known (λ b is out. absurd (not_out out)));
     room = ap (λ h. h.room) c.heap ∙ s.room;
   }
     where

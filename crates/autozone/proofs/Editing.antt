@@ -8,7 +8,7 @@ use Rattle.std.specs.Cmp.{IsTotalOrder, eq_by_cmp_equiv}
 use Rattle.std.specs.FinMap.{FinMap, get, insert, get-insert, IsAntisymmetric}
 use Rattle.az_base.specs.declared.word.Word.{Word}
 use Rattle.block_layouts.specs.declared.layout.Layout.{Layout}
-use Rattle.shared_heap.specs.Whole.{Takes, Whole}
+use Rattle.block_layouts.specs.Fitting.{FitsAt, Fits}
 use Rattle.zone_model.specs.Maps.{total, total-insert, at_value}
 use Rattle.zone_model.specs.State.{with_edit}
 
@@ -49,23 +49,3 @@ module _ {K X : Type 0} {R : K → K → Ordering} (o : IsTotalOrder R) (exact :
           let was : at_value (f k) (get m k) ≡ f k x = ap (at_value (f k)) is in
           let now : f k (g x) ≡ f k x = same x in
           omega arith
-
--- words after one of them was set
-pub set_or_was : (ws : List Word) (i j : ℕ) (w v : Word) → slice_get (slice_set ws i w) j ≡ Some v → ((i ≡ j) × (w ≡ v)) ⊎ (slice_get ws j ≡ Some v)
-set_or_was [] i j w v h = inr h
-set_or_was (x ∷ ws) zero zero w v h = inl (refl, cc)
-set_or_was (x ∷ ws) zero (suc j) w v h = inr h
-set_or_was (x ∷ ws) (suc i) zero w v h = inr h
-set_or_was (x ∷ ws) (suc i) (suc j) w v h = elim (set_or_was ws i j w v h) [ inl e ↦ inl (ap suc e.0, e.1) | inr e ↦ inr e ]
-
-length_set : (ws : List Word) (i : ℕ) (w : Word) → length (slice_set ws i w) ≡ length ws
-length_set [] i w = refl
-length_set (x ∷ ws) zero w = refl
-length_set (x ∷ ws) (suc i) w = ap suc (length_set ws i w)
-
--- they fit their layout still
-pub whole_set : (l : Layout) (ws : List Word) (i : ℕ) (w : Word) → Whole l ws → Takes l i w → Whole l (slice_set ws i w)
-whole_set l ws i w f takes = record {
-  all = length_set ws i w ∙ f.all;
-  suit = λ j v h. elim (set_or_was ws i j w v h) [ inl e ↦ rw (← e.0, ← e.1) takes | inr was ↦ f.suit j v was ];
-}

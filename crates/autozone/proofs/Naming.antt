@@ -17,9 +17,9 @@ use Rattle.zone_model.specs.declared.call.Call.{Call}
 use Rattle.zone_model.specs.State.{State, Block, word_at, referent, reference, is_escaped}
 use Rattle.zone_model.specs.Misuses.{words_named}
 use Rattle.shared_heap.specs.Steps.{NeedsWord, first_three}
-use Rattle.shared_heap.specs.Whole.{Takes, Whole}
+use Rattle.block_layouts.specs.Fitting.{FitsAt, Fits}
 use Rattle.shared_heap.specs.Words.{class_misuse}
-use Rattle.shared_heap.proofs.Stepping.{one_word, within}
+use Rattle.shared_heap.proofs.Stepping.{one_word}
 use Rattle.autozone.specs.declared.plain.zone.Own.{Own}
 use Rattle.autozone.specs.declared.plain.zone.Plain.{Plain}
 use Rattle.autozone.specs.Soundness.{IsThere}
@@ -66,12 +66,8 @@ pub own_not_escaped : (p : Plain) (z : State) (id : BlockId) (b : Own) → Shows
 own_not_escaped p z id b s there out = let no : false ≡ true = sym (ap (λ o. is_some (option_and_then (λ (b : Block). b.since) o)) (shown_block p z id b s there)) ∙ out in cc (no)
 
 -- an own block fits its layout
-pub own_whole : (p : Plain) (z : State) (id : BlockId) (b : Own) → StandsFor p z → tree.get id_cmp p.blocks id ≡ Some b → Whole b.layout b.words.items
-own_whole p z id b s h = s.sound.filled id (seen b) (shown_block p z id b s.shows h) refl
-
--- a place with a class is within the words
-pub place_within : (l : Layout) (ws : List Word) (at : ℕ) (k : Class) → Whole l ws → class_at l at ≡ Some k → at < length ws
-place_within l ws at k whole is = let below = within l at k is in let all = whole.all in grind (arith, nat_tests)
+pub own_fits : (p : Plain) (z : State) (id : BlockId) (b : Own) → StandsFor p z → tree.get id_cmp p.blocks id ≡ Some b → Fits b.layout b.words.items
+own_fits p z id b s h = s.sound.filled id (seen b) (shown_block p z id b s.shows h) refl
 
 pub has_word : (p : Plain) (z : State) (id : BlockId) (b : Own) (at : ℕ) (k : Class) (w : Word) → StandsFor p z → tree.get id_cmp p.blocks id ≡ Some b → class_at b.layout at ≡ Some k → slice_get b.words.items at ≡ Some w → HasWord p.blocks id at k w
 has_word p z id b at k w s there kind is = record {
@@ -79,7 +75,7 @@ has_word p z id b at k w s there kind is = record {
   there = there;
   class_is = kind;
   is = is;
-  suits = let takes = (own_whole p z id b s there).suit at w is in rw kind at takes;
+  suits = let takes = (own_fits p z id b s there).suit at w is in rw kind at takes;
 }
 
 -- the misuses of naming a word of an own block
@@ -125,12 +121,9 @@ referent_there p z id at k w s found b is = go w refl is
     go (word.Number n) e h = cc
     go (word.Block d) e h = s.sound.words id b (seen found.block, at, shown_block p z id found.block s.shows found.there, found.is ∙ ap Some e ∙ ap Some (ap word.Block (some_one d b h)))
 
-pub takes_reference : (l : Layout) (at : ℕ) (v : Option BlockId) → class_at l at ≡ Some class.Strong → Takes l at (reference v)
+pub takes_reference : (l : Layout) (at : ℕ) (v : Option BlockId) → class_at l at ≡ Some class.Strong → FitsAt l at (reference v)
 takes_reference l at None h = rw h tt
 takes_reference l at (Some b) h = rw h tt
-
-pub takes_number : (l : Layout) (at n : ℕ) → class_at l at ≡ Some class.Plain → Takes l at (word.Number n)
-takes_number l at n h = rw h tt
 
 same_block : (a b : BlockId) → word.Block a ≡ word.Block b → a ≡ b
 same_block a b h = cc

@@ -20,8 +20,8 @@ use Rattle.zone_model.specs.State.{State, Block, is_escaped}
 use Rattle.zone_model.specs.Effect.{new_block, with_new}
 use Rattle.zone_model.specs.Reach.{WordEdge}
 use Rattle.zone_model.specs.Quanta.{used_quanta}
-use Rattle.shared_heap.specs.Whole.{Whole}
-use Rattle.shared_heap.proofs.Wholes.{first_whole}
+use Rattle.block_layouts.specs.Fitting.{Fits}
+use Rattle.block_layouts.proofs.Fitting.{first_fits}
 use Rattle.autozone.specs.Soundness.{IsSound, IsThere}
 
 only_that : (n i : ℕ) (w v : Word) → slice_get (replicate n w) i ≡ Some v → w ≡ v
@@ -129,7 +129,7 @@ module _ (z : State) (t to : ℕ) (l : Layout) (actions : List Action) where
     pub sound_new : used_quanta after ≤ after.options.heap_quanta → IsSound t after
     sound_new fits = record {
       made = λ q h. elim (some_of q h) [ inl e ↦ ap (λ (x : BlockId). x.thread) e | inr old ↦ s.made q old ];
-      filled = λ q b h fresh. elim (new_or_old q b h) [ inl is ↦ subst (λ (k : Block). Whole k.layout k.words) is.1 (first_whole l) | inr old ↦ s.filled q b old fresh ];
+      filled = λ q b h fresh. elim (new_or_old q b h) [ inl is ↦ subst (λ (k : Block). Fits k.layout k.words) is.1 (first_fits l) | inr old ↦ s.filled q b old fresh ];
       registers = λ r q h. held_there r q ((t == t) && (to == r)) (one_of ((t == t) && (to == r))) h;
       roots = λ g q h. out q (s.roots g q h);
       words = λ a b e. stays b (s.words a b (old_edge a b e));

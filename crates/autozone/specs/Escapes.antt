@@ -14,7 +14,7 @@ use Rattle.shared_heap.specs.Ready.{Ready}
 use Rattle.shared_heap.specs.Shared.{used_by, admitted}
 use Rattle.shared_heap.specs.Stands.{Stands}
 use Rattle.shared_heap.specs.Steps.{IsUnescaped}
-use Rattle.shared_heap.specs.Whole.{Whole}
+use Rattle.block_layouts.specs.Fitting.{Fits}
 use Rattle.zone_model.specs.State.{State}
 use Rattle.zone_model.specs.Reach.{Leads}
 use Rattle.zone_model.specs.Escape.{Tells, EscOf, with_escaped}
@@ -102,7 +102,7 @@ pub record CanMove (p : Plain) (ids : List BlockId) : Type 0 where
   pub room : p.heap.room ≡ lengths_of p.blocks ids
   pub fits : used_by p.heap.blocks + sum_of p.blocks ids ≤ p.heap.options.heap_quanta
   pub counted : sum_of p.blocks ids ≤ p.own
-  pub whole : (q : BlockId) (b : Own) → tree.get id_cmp p.blocks q ≡ Some b → Whole b.layout b.words.items
+  pub whole : (q : BlockId) (b : Own) → tree.get id_cmp p.blocks q ≡ Some b → Fits b.layout b.words.items
   pub absent : (q : BlockId) → IsOwn p.blocks q → get p.heap.blocks q ≡ None
 
 -- one block was moved to the heap

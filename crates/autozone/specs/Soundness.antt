@@ -7,7 +7,7 @@ use Rattle.az_base.specs.declared.weak_loc.WeakLoc.TheVariants as weak
 use Rattle.zone_model.specs.State.{State, Block, is_escaped}
 use Rattle.zone_model.specs.Quanta.{used_quanta}
 use Rattle.zone_model.specs.Reach.{WordEdge}
-use Rattle.shared_heap.specs.Whole.{Whole}
+use Rattle.block_layouts.specs.Fitting.{Fits}
 
 -- the zone has the block
 abbrev pub IsThere : State → BlockId → Type 0
@@ -16,7 +16,7 @@ IsThere z id = IsSome (get z.blocks id)
 -- all blocks are the thread's, and those that haven't escaped fit their layouts; what its registers and the words of blocks hold is there; what others may see has escaped, leads to what has escaped, and fits into the zone
 pub record IsSound (t : ℕ) (z : State) : Type 0 where
   pub made : (id : BlockId) → IsThere z id → id.thread ≡ t
-  pub filled : (id : BlockId) (b : Block) → get z.blocks id ≡ Some b → b.since ≡ None → Whole b.layout b.words
+  pub filled : (id : BlockId) (b : Block) → get z.blocks id ≡ Some b → b.since ≡ None → Fits b.layout b.words
   pub registers : (r : ℕ) (id : BlockId) → z.registers t r ≡ Some id → IsThere z id
   pub roots : (g : ℕ) (id : BlockId) → z.roots g ≡ Some id → IsTrue (is_escaped z id)
   pub words : (a b : BlockId) → WordEdge z.blocks a b → IsThere z b

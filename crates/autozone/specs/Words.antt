@@ -9,7 +9,7 @@ use Rattle.az_base.specs.declared.word.Class.{Class}
 use Rattle.az_base.specs.declared.word.Word.{Word}
 use Rattle.az_base.specs.Ids.{id_cmp}
 use Rattle.block_layouts.specs.Layouts.{class_at}
-use Rattle.shared_heap.specs.Whole.{Suits}
+use Rattle.block_layouts.specs.Fitting.{Suits}
 use Rattle.shared_heap.specs.Words.{class_misuse}
 use Rattle.zone_model.specs.State.{State, Block, is_escaped}
 use Rattle.autozone.specs.declared.plain.zone.Own.{Own}

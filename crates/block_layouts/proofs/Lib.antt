@@ -1,1 +1,2 @@
 pub mod LetterTexts
+pub mod Fitting

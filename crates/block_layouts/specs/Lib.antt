@@ -1,3 +1,4 @@
 pub mod Shapes
 pub mod Layouts
 pub mod Letters
+pub mod Fitting

@@ -18,6 +18,7 @@ use Rattle.az_base.specs.declared.word.Word.TheVariants as word
 use Rattle.block_layouts.specs.declared.layout.Layout.{Layout}
 use Rattle.block_layouts.specs.declared.layout.Shape.TheVariants as shape
 use Rattle.block_layouts.specs.Layouts.{len_of, class_at, same_class}
+use Rattle.block_layouts.proofs.Fitting.{class_within}
 use Rattle.zone_model.specs.declared.call.Call.{Call}
 use Rattle.zone_model.specs.declared.call.Call.TheVariants as call
 use Rattle.zone_model.specs.declared.entry.Reply.{Reply}
@@ -79,14 +80,6 @@ past (shape.Object cs) at e = elim (slice_get_cases cs at).1 [
   | inr w ↦ let le = w.0 in grind (arith, nat_tests, common_steps)
 ]
 
-pub within : (l : Layout) (at : ℕ) (c : Class) → class_at l at ≡ Some c → nat_le (len_of l) at ≡ false
-within (shape.Scanned n) at c e = grind (arith, nat_tests, common_steps)
-within (shape.Unscanned n) at c e = grind (arith, nat_tests, common_steps)
-within (shape.Object cs) at c e = elim (slice_get_cases cs at).1 [
-  | inl w ↦ let l = w.1 in grind (arith, nat_tests, common_steps)
-  | inr w ↦ let e2 = w.1 in cc
-]
-
 -- the misuses of one word
 pub one_word : (l : Layout) (at : ℕ) (class : Class) → let w : Named = record { layout = l; at = at; class = class } in
     first_of ((is_past w || false, misuse.NoWord) ∷ (is_other w || false, misuse.WrongClass) ∷ []) ≡ class_misuse class (class_at l at)
@@ -94,7 +87,7 @@ one_word l at class = go (class_at l at) refl
   where
     go : (o : Option Class) → class_at l at ≡ o → first_of ((nat_le (len_of l) at || false, misuse.NoWord) ∷ (option_map_or (λ c. not (same_class c class)) (class_at l at) false || false, misuse.WrongClass) ∷ []) ≡ class_misuse class o
     go None e = rw (past l at e) refl
-    go (Some c) e = rw (within l at c e, e) (by_test (same_class c class))
+    go (Some c) e = rw (class_within l at c e, e) (by_test (same_class c class))
       where
         by_test : (b : Bool) → first_of ((false || false, misuse.NoWord) ∷ (not b || false, misuse.WrongClass) ∷ []) ≡ cond b None (Some misuse.WrongClass)
         by_test true = refl

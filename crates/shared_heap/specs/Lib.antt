@@ -1,5 +1,4 @@
 pub mod Holds
-pub mod Whole
 pub mod Stored
 pub mod Table
 pub mod Ready

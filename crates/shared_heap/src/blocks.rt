@@ -5,7 +5,7 @@ ghost use Rattle.std.specs.FinMap.{get, insert, contains_key, empty};
 ghost use Rattle.block_layouts.specs.Layouts.{class_at};
 ghost use Rattle.zone_model.specs.State.{with_edit};
 ghost use Rattle.shared_heap.specs.Holds.{times, with_times};
-ghost use Rattle.shared_heap.specs.Whole.{Takes, Whole};
+ghost use Rattle.block_layouts.specs.Fitting.{FitsAt, Fits};
 
 use crate::stored::Stored;
 use az_base::{BlockId, Class, NoMemory, ThreadNo, Word};
@@ -74,7 +74,7 @@ impl Blocks {
     /// A word of a block, where both are there.
     pub fn word(&self, id: BlockId, at: u32) -> Option<Word>
         ensures word { result ≡ option_and_then (λ k. slice_get k.words at) (get self.now.blocks id) }
-        ensures whole { IfSome (get self.now.blocks id) (λ k. Whole k.layout k.words) }
+        ensures whole { IfSome (get self.now.blocks id) (λ k. Fits k.layout k.words) }
     {
         match self.stored.get(&id) {
             Some(stored) => stored.word(at),
@@ -84,7 +84,7 @@ impl Blocks {
 
     /// Another word of a block.
     pub fn set_word(&mut self, id: BlockId, at: u32, word: Word)
-        requires { MatchOption (get self.old.blocks id) ⊥ (λ k. Takes k.layout at word) }
+        requires { MatchOption (get self.old.blocks id) ⊥ (λ k. FitsAt k.layout at word) }
         ensures blocks { self.new.blocks ≡ with_edit self.old.blocks id (λ k. record k { words = slice_set k.words at word }) }
         ensures holds { self.new.holds ≡ self.old.holds }
         ensures spare { self.new.spare ≡ self.old.spare }

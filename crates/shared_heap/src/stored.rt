@@ -3,7 +3,7 @@ ghost use Rattle.std.specs.Prelude.{◌≡◌, ◌<◌, ◌⊎◌, slice_get, sl
 ghost use Rattle.std.specs.FinMap.{empty};
 ghost use Rattle.block_layouts.specs.Layouts.{class_at};
 ghost use Rattle.shared_heap.specs.Holds.{times, with_times};
-ghost use Rattle.shared_heap.specs.Whole.{Whole, Takes};
+ghost use Rattle.block_layouts.specs.Fitting.{Fits, FitsAt};
 
 use crate::holders::Holders;
 use az_base::{Action, Class, NoMemory, ThreadNo, Word};
@@ -30,11 +30,11 @@ impl Model for Stored {
 
     ghost coded = { coded_held };
 
-    ghost use Rattle.shared_heap.specs.Whole.{Whole};
+    ghost use Rattle.block_layouts.specs.Fitting.{Fits};
 
     ghost view = { λ s. record { kept = record { layout = s.layout; words = s.words.items; actions = s.actions.items; finalised = s.finalised; age = s.age }; holds = s.holders } };
 
-    ghost invariant = { λ s. Whole s.layout s.words.items };
+    ghost invariant = { λ s. Fits s.layout s.words.items };
 }
 
 impl Stored {
@@ -42,7 +42,7 @@ impl Stored {
 
     /// A block that has just escaped, which nobody holds. It takes no memory.
     pub fn new(alloc: Global, layout: Layout, words: Vec<Word>, actions: Vec<Action>) -> Stored
-        requires { Whole layout words.items }
+        requires { Fits layout words.items }
         ensures kept { result.kept ≡ newly layout words.items actions.items }
         ensures holds { result.holds ≡ empty }
     {
@@ -66,14 +66,14 @@ impl Stored {
     /// The word at a place; None exactly past the end.
     pub fn word(&self, at: u32) -> Option<Word>
         ensures word { result ≡ slice_get self.now.kept.words at }
-        ensures whole { Whole self.now.kept.layout self.now.kept.words }
+        ensures whole { Fits self.now.kept.layout self.now.kept.words }
     {
         self.words.get(at as usize).copied()
     }
 
     /// Another word at a place.
     pub fn set_word(&mut self, at: u32, word: Word)
-        requires { Takes self.old.kept.layout at word }
+        requires { FitsAt self.old.kept.layout at word }
         ensures { self.new ≡ record self.old { kept = record self.old.kept { words = slice_set self.old.kept.words at word } } }
     {
         self.words[at as usize] = word;

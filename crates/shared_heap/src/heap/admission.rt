@@ -10,7 +10,7 @@ ghost use Rattle.shared_heap.specs.Holding.{HoldsSet};
 ghost use Rattle.shared_heap.specs.Shared.{held, used_by, holding, admitted, IsFresh};
 ghost use Rattle.shared_heap.specs.Stands.{Stands};
 ghost use Rattle.shared_heap.specs.Steps.{IsUnescaped};
-ghost use Rattle.shared_heap.specs.Whole.{Whole};
+ghost use Rattle.block_layouts.specs.Fitting.{Fits};
 
 use crate::heap::Heap;
 use crate::stored::Stored;
@@ -48,7 +48,7 @@ impl Heap {
     pub fn admit(&mut self, id: BlockId, layout: Layout, words: Vec<Word>)
         requires room { slice_get self.old.room 0 ≡ Some (len_of layout) }
         requires absent { get self.old.blocks id ≡ None }
-        requires whole { Whole layout words.items }
+        requires whole { Fits layout words.items }
         requires fits { used_by self.old.blocks + quanta (len_of layout) ≤ self.old.options.heap_quanta }
         ensures value { self.new ≡ admitted self.old id layout words.items }
         ensures held { (u : ℕ) (q : BlockId) → held self.new u q ≡ (if same_id id q then 0 else held self.old u q) }

@@ -12,7 +12,7 @@ ghost use Rattle.shared_heap.specs.Shared.{held, used_by};
 ghost use Rattle.shared_heap.specs.Stands.{Stands, Sound};
 ghost use Rattle.shared_heap.specs.Holding.{HoldsMore};
 ghost use Rattle.shared_heap.specs.Steps.{Runs, Stepped, NeedsWord, first_three, after_read, after_write, names};
-ghost use Rattle.shared_heap.specs.Whole.{Suits};
+ghost use Rattle.block_layouts.specs.Fitting.{Suits};
 ghost use Rattle.shared_heap.specs.Words.{word_misuse, word_in, class_in, Finds, number_in, reply_or};
 
 use crate::heap::Heap;

@@ -1,13 +1,14 @@
 use Rattle.std.proofs.Common.{◌<◌, Some, length, refl, sym, ap, ◌∙◌, arith}
 use Rattle.std.proofs.lemmas.Option.{slice_get_read}
 use Rattle.shared_heap.specs.Words.{class_misuse}
-use Rattle.autozone.proofs.Naming.{own_whole, place_within, has_word, same_class_is, wrong_one}
+use Rattle.block_layouts.proofs.Fitting.{place_within}
+use Rattle.autozone.proofs.Naming.{own_fits, has_word, same_class_is, wrong_one}
 use Rattle.autozone.proofs.plain.words.own_word.Goals as goal
 
 pub index-requires : goal.index-requires
 index-requires c =
     let b = c.in-Some.block.now in
-    let whole = own_whole c.args.plain.now c.requires.real.0 c.args.id b c.requires.real.1 (sym c.in-Some.ensures.value) in
+    let whole = own_fits c.args.plain.now c.requires.real.0 c.args.id b c.requires.real.1 (sym c.in-Some.ensures.value) in
     let l : c.args.at < length b.words.items = place_within b.layout b.words.items c.args.at c.in-Some-class_at.found whole (sym c.in-Some-class_at.ensures) in
     omega (arith, l)
 
@@ -23,7 +24,7 @@ returns-in-Some-class_at c =
     let there = sym c.in-Some.ensures.value in
     let found = c.in-Some-class_at.found in
     let kind = sym c.in-Some-class_at.ensures ∙ ap Some (same_class_is found c.args.class (sym c.is_same.ensures ∙ c.if-is_same.true)) in
-    let within = place_within b.layout b.words.items c.args.at c.args.class (own_whole p z c.args.id b s there) kind in
+    let within = place_within b.layout b.words.items c.args.at c.args.class (own_fits p z c.args.id b s there) kind in
     has_word p z c.args.id b c.args.at c.args.class c.index.result.now s there kind (slice_get_read b.words.items (length b.words.items) c.args.at c.index.result.now refl within c.index.ensures)
 
 pub returns-in-Some-2 : goal.returns-in-Some-2

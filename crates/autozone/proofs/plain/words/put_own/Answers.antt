@@ -5,7 +5,8 @@ use Rattle.zone_model.specs.declared.call.Call.TheVariants as call
 use Rattle.zone_model.specs.State.{with_word}
 use Rattle.zone_model.proofs.Steps.{step_plain, step_misuse, unseen}
 use Rattle.autozone.proofs.Changes.{word_set}
-use Rattle.autozone.proofs.Naming.{own_three, right_class, shown_block, takes_number}
+use Rattle.block_layouts.proofs.Fitting.{number_fits}
+use Rattle.autozone.proofs.Naming.{own_three, right_class, shown_block}
 use Rattle.autozone.proofs.plain.words.put_own.Goals as goal
 
 pub returns-in-Err-clause-step : goal.returns-in-Err-clause-step
@@ -26,5 +27,5 @@ returns-in-Ok-clause-step c = λ z s.
     let right = own_three p z _ c.args.into c.args.at (call.Put c.args.into c.args.at c.args.number) _ _ found.block s.shows holds found.there record { holder = refl; word = refl } ∙ right_class _ _ found.class_is in (
       after,
       step_plain z _ after s.shows.running (λ id n. n) right (after, refl, sym (unseen after (ap (λ a. (with_word z a c.args.at w).cycle) holds ∙ s.shows.heap.cycle))),
-      rw holds (word_set z _ c.args.at w p _ _ s c.set_word.ensures (shown_block p z _ found.block s.shows found.there) refl (takes_number found.block.layout c.args.at c.args.number found.class_is) (λ b is. cc)),
+      rw holds (word_set z _ c.args.at w p _ _ s c.set_word.ensures (shown_block p z _ found.block s.shows found.there) refl (number_fits found.block.layout c.args.at c.args.number found.class_is) (λ b is. cc)),
     )

@@ -4,18 +4,18 @@ use Rattle.std.specs.FinMap.{get}
 use Rattle.zone_model.specs.State.{with_edit}
 use Rattle.shared_heap.specs.Stored.{Held, Kept}
 use Rattle.shared_heap.specs.Table.{Table, each_of}
-use Rattle.shared_heap.specs.Whole.{Takes}
+use Rattle.block_layouts.specs.Fitting.{FitsAt}
 use Rattle.shared_heap.proofs.Tables.{each_there, each_get, each_edit, each_kept, eq_ids}
 use Rattle.shared_heap.proofs.blocks.Blocks.set_word.Goals as goal
 
 pub unreachable-requires : goal.unreachable-requires
 unreachable-requires c =
     let none : get (each_of (λ (s : Held). s.kept) c.self.inside.stored.entries) c.args.id ≡ None = each_get (λ (s : Held). s.kept) _ eq_ids c.self.inside.stored.entries c.args.id ∙ sym (ap (option_map (λ (s : Held). s.kept)) c.in_default.ensures.value) in
-    subst (λ o. MatchOption o ⊥ (λ k. Takes k.layout c.args.at c.args.word)) none (rw (← c.self.view_is) at c.requires)
+    subst (λ o. MatchOption o ⊥ (λ k. FitsAt k.layout c.args.at c.args.word)) none (rw (← c.self.view_is) at c.requires)
 
 pub set_word-requires : goal.set_word-requires
 set_word-requires c =
-    subst (λ o. MatchOption o ⊥ (λ k. Takes k.layout c.args.at c.args.word)) (each_there (λ (s : Held). s.kept) _ eq_ids c.self.inside.stored.entries c.args.id c.in-Some.stored.now c.in-Some.ensures.value) (rw (← c.self.view_is) at c.requires)
+    subst (λ o. MatchOption o ⊥ (λ k. FitsAt k.layout c.args.at c.args.word)) (each_there (λ (s : Held). s.kept) _ eq_ids c.self.inside.stored.entries c.args.id c.in-Some.stored.now c.in-Some.ensures.value) (rw (← c.self.view_is) at c.requires)
 
 pub returns-clause-blocks : goal.returns-clause-blocks
 returns-clause-blocks c =
