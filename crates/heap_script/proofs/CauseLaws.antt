@@ -1,17 +1,19 @@
 -- What a call line that is refused has, and what it has not
 use Rattle.std.proofs.Common.{◌≡◌, ℕ, inl, inr, Bool, true, false, cond, eqb, List, [], ◌∷◌, Option, Some, None, Result, Ok, Err, refl, sym, ap, ◌∙◌, subst}
 use Rattle.az_words.specs.Laws.{NumbersAreRead}
+use Rattle.call_words.specs.Names.{name_text}
+use Rattle.call_words.specs.Laws.{NamesAreRead, ArgumentsAreRead}
+use Rattle.call_words.specs.Reading.Words.{thread_of}
+use Rattle.call_words.specs.Reading.Calls.{next_as, act_at}
 use Rattle.heap_script.specs.declared.cause.Cause.{Cause}
 use Rattle.heap_script.specs.declared.cause.Cause.TheVariants.{NoThread, NoCall, WrongArgument, TooManyArguments}
 use Rattle.heap_script.specs.declared.line.Line.{Line}
-use Rattle.heap_script.specs.Names.{name_text}
-use Rattle.heap_script.specs.Built.{built_name}
-use Rattle.heap_script.specs.Pieces.{thread_of}
-use Rattle.heap_script.specs.Reading.{◌>>=◌, next_as, no_more, act_at, same_thread, line_at, line_of}
-use Rattle.heap_script.specs.Grammar.{LineAt, HasThread, HasCall, LineCause}
-use Rattle.heap_script.proofs.Steps.{bind_err, next_ok, next_err, ok_is_not_err, whole_ok, whole_err}
-use Rattle.heap_script.proofs.WordLaws.{built_name_ok, built_name_from}
-use Rattle.heap_script.proofs.LineLaws.{act_err, line_at_ok, line_at_from}
+use Rattle.heap_script.specs.Built.{most_actions}
+use Rattle.heap_script.specs.Lines.{LineAt}
+use Rattle.heap_script.specs.Refusals.{HasThread, HasCall, LineCause}
+use Rattle.heap_script.specs.Reading.Scripts.{◌>>=◌, or_cause, no_more, next_built, same_thread, line_at, line_of}
+use Rattle.heap_script.proofs.Steps.{or_ok, or_err, bind_err, next_some, next_none, ok_is_not_err, whole_ok, whole_err}
+use Rattle.heap_script.proofs.LineLaws.{built_ok, built_from, line_at_ok, line_at_from}
 
 refused_by : (b : Bool) (d : Cause) → ◌≡◌ {A = Result (Unit {0}) Cause} (cond b (Ok tt) (Err WrongArgument)) (Err d) → WrongArgument ≡ d
 refused_by true d e = cc
@@ -35,55 +37,57 @@ said only words c d e h = subst (Says only words) e h
 tail_same : (a b : List ℕ) (xs ys : List (List ℕ)) → a ∷ xs ≡ b ∷ ys → xs ≡ ys
 tail_same a b xs ys e = cc
 
+is_none_and_some : {A : Type 0} {o : Option A} {x : A} → o ≡ None → o ≡ Some x → ⊥
+is_none_and_some e f = cc
+
 -- where no front of the words was read as a call line
-at_says : (numbers : NumbersAreRead) → (only : Option ℕ) (words : List (List ℕ)) (d : Cause) → line_at only words ≡ Err d → Says only words d
+at_says : (numbers : NumbersAreRead) → (names : NamesAreRead) → (arguments : ArgumentsAreRead) → (only : Option ℕ) (words : List (List ℕ)) (d : Cause) → line_at only words ≡ Err d → Says only words d
 unfolding line_at thread_of Says
-at_says numbers only words d e =
-    elim (bind_err (next_as thread_of NoThread words) _ d e) [
+at_says numbers names arguments only words d e =
+    elim (bind_err (or_cause NoThread (next_as thread_of words)) _ d e) [
       | inl h ↦
-          (let p = next_err thread_of NoThread d words h in
-          said only words NoThread d p.0 (λ has. p.1 has.0 has.1 has.2 has.3 ((numbers 1 16 has.0 has.2).1 has.4)))
+          (let p = or_err NoThread d (next_as thread_of words) h in
+          said only words NoThread d p.0 (λ has. next_none thread_of words p.1 has.0 has.1 has.2 has.3 ((numbers 1 16 has.0 has.2).1 has.4)))
       | inr a ↦
-          (let t = next_ok thread_of NoThread words a.0 a.1 in
+          (let t = next_some thread_of words a.0 (or_ok NoThread (next_as thread_of words) a.0 a.1) in
           let number = (numbers 1 16 t.0 a.0.0).0 t.2 in
-          elim (bind_err (next_as built_name NoCall a.0.1) _ d a.2) [
+          elim (bind_err (or_cause NoCall (next_built a.0.1)) _ d a.2) [
             | inl h ↦
-                (let p = next_err built_name NoCall d a.0.1 h in
+                (let p = or_err NoCall d (next_built a.0.1) h in
                 said only words NoCall d p.0 (
                   (t.0, a.0.1, a.0.0, t.1, number),
-                  λ has. p.1 (name_text has.2) has.1 has.2 (tail_same t.0 has.0 a.0.1 (name_text has.2 ∷ has.1) (sym t.1 ∙ has.4)) (built_name_from has.2 has.6),
+                  λ has. is_none_and_some p.1 (ap next_built (tail_same t.0 has.0 a.0.1 (name_text has.2 ∷ has.1) (sym t.1 ∙ has.4)) ∙ built_from names has.2 has.1 has.6),
                 ))
             | inr b ↦
-                (let n = next_ok built_name NoCall a.0.1 b.0 b.1 in
-                let named = built_name_ok n.0 b.0.0 n.2 in
-                let has : HasCall words = (t.0, b.0.1, b.0.0, a.0.0, t.1 ∙ ap (λ ws. t.0 ∷ ws) (n.1 ∙ ap (λ w. w ∷ b.0.1) named.0), number, named.1) in
+                (let named = built_ok names a.0.1 b.0 (or_ok NoCall (next_built a.0.1) b.0 b.1) in
+                let has : HasCall words = (t.0, b.0.1, b.0.0, a.0.0, t.1 ∙ ap (λ ws. t.0 ∷ ws) named.0, number, named.1) in
                 elim (bind_err (same_thread only a.0.0) _ d b.2) [
                   | inl h ↦ said only words WrongArgument d (same_err only a.0.0 d h) has
                   | inr c ↦
-                      elim (bind_err (act_at b.0.0 b.0.1) _ d c.2) [
-                        | inl h ↦ said only words WrongArgument d (act_err b.0.0 b.0.1 d h) has
+                      elim (bind_err (or_cause WrongArgument (act_at most_actions b.0.0 b.0.1)) _ d c.2) [
+                        | inl h ↦ said only words WrongArgument d (or_err WrongArgument d (act_at most_actions b.0.0 b.0.1) h).0 has
                         | inr k ↦ absurd (ok_is_not_err _ d k.2)
                       ]
                 ])
           ])
     ]
 
-says : (numbers : NumbersAreRead) → (only : Option ℕ) (words : List (List ℕ)) (d : Cause) → line_of only words ≡ Err d → Says only words d
+says : (numbers : NumbersAreRead) → (names : NamesAreRead) → (arguments : ArgumentsAreRead) → (only : Option ℕ) (words : List (List ℕ)) (d : Cause) → line_of only words ≡ Err d → Says only words d
 unfolding line_of Says
-says numbers only words d e =
+says numbers names arguments only words d e =
     elim (whole_err (line_at only words) d e) [
-      | inl h ↦ at_says numbers only words d h
-      | inr m ↦ said only words TooManyArguments d m.0 (m.1, m.2, m.3, line_at_ok numbers only words (m.1, m.2 ∷ m.3) m.4)
+      | inl h ↦ at_says numbers names arguments only words d h
+      | inr m ↦ said only words TooManyArguments d m.0 (m.1, m.2, m.3, line_at_ok numbers names arguments only words (m.1, m.2 ∷ m.3) m.4)
     ]
 
 -- where a call line begins the words, only what is left may be wrong
-left_over : (numbers : NumbersAreRead) → (only : Option ℕ) (words : List (List ℕ)) (line : Line) (left : List (List ℕ)) → LineAt only words line left → line_of only words ≡ (no_more left >>= λ end. Ok line)
+left_over : (numbers : NumbersAreRead) → (names : NamesAreRead) → (arguments : ArgumentsAreRead) → (only : Option ℕ) (words : List (List ℕ)) (line : Line) (left : List (List ℕ)) → LineAt only words line left → line_of only words ≡ (no_more left >>= λ end. Ok line)
 unfolding line_of
-left_over numbers only words line left h = rw (line_at_from numbers only words line left h) refl
+left_over numbers names arguments only words line left h = rw (line_at_from numbers names arguments only words line left h) refl
 
-is_too_many : (numbers : NumbersAreRead) → (only : Option ℕ) (words : List (List ℕ)) → LineCause only words TooManyArguments → line_of only words ≡ Err TooManyArguments
+is_too_many : (numbers : NumbersAreRead) → (names : NamesAreRead) → (arguments : ArgumentsAreRead) → (only : Option ℕ) (words : List (List ℕ)) → LineCause only words TooManyArguments → line_of only words ≡ Err TooManyArguments
 unfolding no_more
-is_too_many numbers only words h = left_over numbers only words h.0 (h.1 ∷ h.2) h.3
+is_too_many numbers names arguments only words h = left_over numbers names arguments only words h.0 (h.1 ∷ h.2) h.3
 
 not_wrong : (left : List (List ℕ)) (line : Line) → ◌≡◌ {A = Result Line Cause} (no_more left >>= λ end. Ok line) (Err WrongArgument) → ⊥
 unfolding no_more
@@ -101,10 +105,10 @@ Outcome : Option ℕ → List (List ℕ) → Result Line Cause → Type 0
 Outcome only words (Ok line) = LineAt only words line []
 Outcome only words (Err d) = Says only words d
 
-outcome : (numbers : NumbersAreRead) → (only : Option ℕ) (words : List (List ℕ)) (read : Result Line Cause) → line_of only words ≡ read → Outcome only words read
+outcome : (numbers : NumbersAreRead) → (names : NamesAreRead) → (arguments : ArgumentsAreRead) → (only : Option ℕ) (words : List (List ℕ)) (read : Result Line Cause) → line_of only words ≡ read → Outcome only words read
 unfolding Outcome line_of
-outcome numbers only words (Ok line) e = line_at_ok numbers only words (line, []) (whole_ok (line_at only words) line e)
-outcome numbers only words (Err d) e = says numbers only words d e
+outcome numbers names arguments only words (Ok line) e = line_at_ok numbers names arguments only words (line, []) (whole_ok (line_at only words) line e)
+outcome numbers names arguments only words (Err d) e = says numbers names arguments only words d e
 
 thread_missing : (only : Option ℕ) (words : List (List ℕ)) (read : Result Line Cause) → Outcome only words read → ¬ HasThread words → read ≡ Err NoThread
 unfolding Outcome Says
@@ -133,17 +137,17 @@ argument_wrong only words (Err WrongArgument) h has none = refl
 argument_wrong only words (Err TooManyArguments) h has none = absurd (none h.0 (h.1 ∷ h.2) h.3)
 argument_wrong only words (Err d) h has none = absurd h
 
-pub refused_ok : (numbers : NumbersAreRead) → (only : Option ℕ) (words : List (List ℕ)) (cause : Cause) → line_of only words ≡ Err cause → LineCause only words cause
+pub refused_ok : (numbers : NumbersAreRead) → (names : NamesAreRead) → (arguments : ArgumentsAreRead) → (only : Option ℕ) (words : List (List ℕ)) (cause : Cause) → line_of only words ≡ Err cause → LineCause only words cause
 unfolding Says
-refused_ok numbers only words NoThread e = says numbers only words NoThread e
-refused_ok numbers only words NoCall e = says numbers only words NoCall e
-refused_ok numbers only words WrongArgument e = (says numbers only words WrongArgument e, λ line left h. not_wrong left line (sym (left_over numbers only words line left h) ∙ e))
-refused_ok numbers only words TooManyArguments e = says numbers only words TooManyArguments e
-refused_ok numbers only words cause e = says numbers only words cause e
+refused_ok numbers names arguments only words NoThread e = says numbers names arguments only words NoThread e
+refused_ok numbers names arguments only words NoCall e = says numbers names arguments only words NoCall e
+refused_ok numbers names arguments only words WrongArgument e = (says numbers names arguments only words WrongArgument e, λ line left h. not_wrong left line (sym (left_over numbers names arguments only words line left h) ∙ e))
+refused_ok numbers names arguments only words TooManyArguments e = says numbers names arguments only words TooManyArguments e
+refused_ok numbers names arguments only words cause e = says numbers names arguments only words cause e
 
-pub refused_from : (numbers : NumbersAreRead) → (only : Option ℕ) (words : List (List ℕ)) (cause : Cause) → LineCause only words cause → line_of only words ≡ Err cause
-refused_from numbers only words NoThread h = thread_missing only words (line_of only words) (outcome numbers only words (line_of only words) refl) h
-refused_from numbers only words NoCall h = call_missing only words (line_of only words) (outcome numbers only words (line_of only words) refl) h.0 h.1
-refused_from numbers only words WrongArgument h = argument_wrong only words (line_of only words) (outcome numbers only words (line_of only words) refl) h.0 h.1
-refused_from numbers only words TooManyArguments h = is_too_many numbers only words h
-refused_from numbers only words cause h = absurd h
+pub refused_from : (numbers : NumbersAreRead) → (names : NamesAreRead) → (arguments : ArgumentsAreRead) → (only : Option ℕ) (words : List (List ℕ)) (cause : Cause) → LineCause only words cause → line_of only words ≡ Err cause
+refused_from numbers names arguments only words NoThread h = thread_missing only words (line_of only words) (outcome numbers names arguments only words (line_of only words) refl) h
+refused_from numbers names arguments only words NoCall h = call_missing only words (line_of only words) (outcome numbers names arguments only words (line_of only words) refl) h.0 h.1
+refused_from numbers names arguments only words WrongArgument h = argument_wrong only words (line_of only words) (outcome numbers names arguments only words (line_of only words) refl) h.0 h.1
+refused_from numbers names arguments only words TooManyArguments h = is_too_many numbers names arguments only words h
+refused_from numbers names arguments only words cause h = absurd h

@@ -1,12 +1,10 @@
 pub mod Steps
-pub mod Actions
-pub mod Objects
-pub mod NoArguments
 pub mod Loop
+pub mod EntrySteps
 pub mod Facts
-pub mod WordLaws
 pub mod LineLaws
 pub mod CauseLaws
 pub mod OptionLaws
 pub mod ScriptLaws
 pub mod RefusalLaws
+pub mod Found

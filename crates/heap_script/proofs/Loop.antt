@@ -11,8 +11,10 @@ use Rattle.heap_script.specs.declared.cause.Cause.{Cause}
 use Rattle.heap_script.specs.declared.cause.LineErr.{LineErr}
 use Rattle.heap_script.specs.declared.cause.LineErr.TheVariants as errors
 use Rattle.heap_script.specs.Causes.{err_at}
-use Rattle.heap_script.specs.Scripts.{Parses}
-use Rattle.heap_script.specs.Reading.{◌>>=◌, Gives, Refusal, entry_of, entries_from, with_entry, options_after, onto_calls, calls_of, first_thread, thread_after, script_of}
+use Rattle.heap_script.specs.Lines.{thread_after}
+use Rattle.heap_script.specs.Refusals.{Refusal}
+use Rattle.heap_script.specs.Scripts.{with_entry, options_after, onto_calls, calls_of, first_thread}
+use Rattle.heap_script.specs.Reading.Scripts.{◌>>=◌, Gives, entry_of, entries_from, script_of, IsRead}
 
 -- a script of these options and these lines, and then what is still read
 abbrev pub going_on : Options → List Line → List Entry → Script
@@ -85,7 +87,7 @@ ends_at o front n here whole cut so_far = sym so_far ∙ ap (total o front n) cu
 
 -- what the error of a line says of the whole
 pub errs_at : (o : Options) (front : List Line) (n : ℕ) (lines here : List (List ℕ)) (line : List ℕ) (err : LineErr) (only : Option ℕ) (bytes : List ℕ) → here ≡ line ∷ lines
-    → first_thread front ≡ only → Gives {X = Entry} (Err err) (entry_of n only line) → total o front n here ≡ script_of bytes → Parses bytes (Err (err_at n err))
+    → first_thread front ≡ only → Gives {X = Entry} (Err err) (entry_of n only line) → total o front n here ≡ script_of bytes → IsRead bytes (Err (err_at n err))
 errs_at o front n lines here line (errors.Cause cause) only bytes cut is e so_far =
     stops_at o front n lines here line cause (script_of bytes) cut (ap (λ t. entry_of n t line) is ∙ e) so_far
 errs_at o front n lines here line errors.NoMemory only bytes cut is e so_far = tt

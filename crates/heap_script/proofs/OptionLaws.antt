@@ -2,16 +2,18 @@
 use Rattle.std.proofs.Common.{◌≡◌, ℕ, inl, inr, List, [], ◌∷◌, Some, Result, Ok, Err, refl, sym, ap, ◌∙◌, subst}
 use Rattle.az_words.specs.Numerals.{number_in}
 use Rattle.az_words.specs.Laws.{NumbersAreRead}
+use Rattle.az_words.proofs.NameLaws.{among_ok}
+use Rattle.call_words.specs.Reading.Calls.{next_as}
 use Rattle.heap_script.specs.declared.cause.Cause.{Cause}
 use Rattle.heap_script.specs.declared.cause.Cause.TheVariants.{NoCall, WrongArgument, TooManyArguments}
 use Rattle.heap_script.specs.declared.setting.OptionName.{OptionName}
 use Rattle.heap_script.specs.declared.setting.OptionName.TheVariants as option
 use Rattle.heap_script.specs.declared.setting.Setting.{Setting}
-use Rattle.heap_script.specs.Settings.{option_text, option_of, least, largest, setting_to}
-use Rattle.heap_script.specs.Reading.{◌>>=◌, next_as, no_more, setting_of}
-use Rattle.heap_script.specs.Grammar.{SettingAt, NamesOption, SettingCause}
-use Rattle.heap_script.proofs.Steps.{bind_ok, bind_err, ok_same, ok_is_not_err, next_ok, next_err, no_more_ok, no_more_err, some_left}
-use Rattle.heap_script.proofs.WordLaws.{among_ok}
+use Rattle.heap_script.specs.Settings.{option_text, least, largest, setting_to}
+use Rattle.heap_script.specs.Lines.{SettingAt}
+use Rattle.heap_script.specs.Refusals.{NamesOption, SettingCause}
+use Rattle.heap_script.specs.Reading.Scripts.{◌>>=◌, or_cause, no_more, option_of, setting_of}
+use Rattle.heap_script.proofs.Steps.{or_ok, or_err, bind_ok, bind_err, ok_same, ok_is_not_err, next_some, next_none, no_more_ok, no_more_err, some_left}
 
 option_ok : (word : List ℕ) (name : OptionName) → option_of word ≡ Some name → word ≡ option_text name
 unfolding option_of
@@ -29,22 +31,22 @@ option_from option.Pending = refl
 Front : List (List ℕ) → OptionName → List (List ℕ) → Type 0
 Front words name others = words ≡ option_text name ∷ others
 
-named : (words : List (List ℕ)) (x : OptionName × List (List ℕ)) → next_as option_of NoCall words ≡ Ok x → words ≡ option_text x.0 ∷ x.1
+named : (words : List (List ℕ)) (x : OptionName × List (List ℕ)) → or_cause NoCall (next_as option_of words) ≡ Ok x → words ≡ option_text x.0 ∷ x.1
 named words x e =
-    let p = next_ok option_of NoCall words x e in
+    let p = next_some option_of words x (or_ok NoCall (next_as option_of words) x e) in
     p.1 ∙ ap (λ w. w ∷ x.1) (option_ok p.0 x.0 p.2)
 
 numbered : (numbers : NumbersAreRead) → (words : List (List ℕ)) (name : OptionName) (others : List (List ℕ)) (x : ℕ × List (List ℕ)) → words ≡ option_text name ∷ others
-    → next_as (number_in (least name) (largest name)) WrongArgument others ≡ Ok x → SettingAt words (setting_to name x.0) x.1
+    → or_cause WrongArgument (next_as (number_in (least name) (largest name)) others) ≡ Ok x → SettingAt words (setting_to name x.0) x.1
 numbered numbers words name others x spelled e =
-    let p = next_ok (number_in (least name) (largest name)) WrongArgument others x e in
+    let p = next_some (number_in (least name) (largest name)) others x (or_ok WrongArgument (next_as (number_in (least name) (largest name)) others) x e) in
     (name, p.0, x.0, spelled ∙ ap (λ ws. option_text name ∷ ws) p.1, (numbers (least name) (largest name) p.0 x.0).0 p.2, refl)
 
 pub setting_ok : (numbers : NumbersAreRead) → (words : List (List ℕ)) (set : Setting) → setting_of words ≡ Ok set → SettingAt words set []
 unfolding setting_of
 setting_ok numbers words set e =
-    let a = bind_ok (next_as option_of NoCall words) _ set e in
-    let b = bind_ok (next_as (number_in (least a.0.0) (largest a.0.0)) WrongArgument a.0.1) _ set a.2 in
+    let a = bind_ok (or_cause NoCall (next_as option_of words)) _ set e in
+    let b = bind_ok (or_cause WrongArgument (next_as (number_in (least a.0.0) (largest a.0.0)) a.0.1)) _ set a.2 in
     let c = bind_ok (no_more b.0.1) _ set b.2 in
     let at = numbered numbers words a.0.0 a.0.1 b.0 (named words a.0 a.1) b.1 in
     let end : SettingAt words (setting_to a.0.0 b.0.0) [] = subst (SettingAt words (setting_to a.0.0 b.0.0)) (no_more_ok b.0.1 c.0 c.1) at in
@@ -73,14 +75,14 @@ said words c d e h = subst (Says words) e h
 says : (numbers : NumbersAreRead) → (words : List (List ℕ)) (d : Cause) → setting_of words ≡ Err d → Says words d
 unfolding setting_of Says
 says numbers words d e =
-    elim (bind_err (next_as option_of NoCall words) _ d e) [
+    elim (bind_err (or_cause NoCall (next_as option_of words)) _ d e) [
       | inl h ↦
-          (let p = next_err option_of NoCall d words h in
-          said words NoCall d p.0 (λ has. p.1 (option_text has.0) has.1 has.0 has.2 (option_from has.0)))
+          (let p = or_err NoCall d (next_as option_of words) h in
+          said words NoCall d p.0 (λ has. next_none option_of words p.1 (option_text has.0) has.1 has.0 has.2 (option_from has.0)))
       | inr a ↦
           (let spelled = named words a.0 a.1 in
-          elim (bind_err (next_as (number_in (least a.0.0) (largest a.0.0)) WrongArgument a.0.1) _ d a.2) [
-            | inl h ↦ said words WrongArgument d (next_err (number_in (least a.0.0) (largest a.0.0)) WrongArgument d a.0.1 h).0 (a.0.0, a.0.1, spelled)
+          elim (bind_err (or_cause WrongArgument (next_as (number_in (least a.0.0) (largest a.0.0)) a.0.1)) _ d a.2) [
+            | inl h ↦ said words WrongArgument d (or_err WrongArgument d (next_as (number_in (least a.0.0) (largest a.0.0)) a.0.1) h).0 (a.0.0, a.0.1, spelled)
             | inr b ↦
                 elim (bind_err (no_more b.0.1) _ d b.2) [
                   | inl h ↦

@@ -11,11 +11,13 @@ use Rattle.heap_script.specs.declared.entries.Entry.{Entry}
 use Rattle.heap_script.specs.declared.entries.Entry.TheVariants as entry
 use Rattle.heap_script.specs.declared.line.Line.{Line}
 use Rattle.heap_script.specs.declared.setting.Setting.{Setting}
-use Rattle.heap_script.specs.Reading.{◌>>=◌, Refusal, line_of, setting_of, is_skipped, after_option, entry_by, entry_at, entry_of, at_line, first_thread, thread_after, entries_from, calls_of, script_of}
-use Rattle.heap_script.specs.Grammar.{IsFit, CauseBy, SaysWords, HasCause, IsRefused}
+use Rattle.heap_script.specs.Lines.{IsFit, is_skipped, thread_after}
+use Rattle.heap_script.specs.Refusals.{after_option, CauseBy, SaysWords, HasCause, Refusal}
+use Rattle.heap_script.specs.Scripts.{calls_of, first_thread, IsRefused}
+use Rattle.heap_script.specs.Reading.Scripts.{◌>>=◌, line_of, setting_of, entry_by, entry_at, entry_of, at_line, entries_from, script_of}
 use Rattle.heap_script.specs.Laws.{LinesAreRead, LinesAreRefused, OptionsAreRead, OptionsAreRefused}
 use Rattle.heap_script.proofs.Steps.{bind_ok, bind_err, ok_same, ok_is_not_err}
-use Rattle.heap_script.proofs.Facts.{not_not, at_line_ok}
+use Rattle.heap_script.proofs.EntrySteps.{not_not, at_line_ok}
 use Rattle.heap_script.proofs.ScriptLaws.{entry_from, said_ok, said_from, goes_on}
 
 -- the only thread after these lines

@@ -9,17 +9,20 @@ use Rattle.std.proofs.lemmas.Str.{is_utf8-from_IsUtf8}
 use Rattle.az_words.specs.Lines.{lines_of}
 use Rattle.az_words.specs.Words.{words_of}
 use Rattle.az_words.specs.Numerals.{numeral_of, number_in}
+use Rattle.call_words.specs.Reading.Words.{thread_of}
+use Rattle.call_words.specs.Reading.Calls.{next_as}
 use Rattle.heap_script.specs.declared.cause.Cause.TheVariants.{NoThread}
 use Rattle.heap_script.specs.declared.entries.Entry.{Entry}
 use Rattle.heap_script.specs.declared.entries.Entry.TheVariants as entry
 use Rattle.heap_script.specs.declared.line.Line.{Line}
 use Rattle.heap_script.specs.declared.script.Script.{Script}
-use Rattle.heap_script.specs.Pieces.{thread_of}
-use Rattle.heap_script.specs.Reading.{next_as, line_at, line_of, is_skipped, option_words, after_option, entry_by, entry_at, entry_of, at_line, thread_after, entries_from, calls_of, script_from, script_of}
-use Rattle.heap_script.specs.Grammar.{IsEntry, IsFit, AreEntries, SayLines, IsScript}
+use Rattle.heap_script.specs.Lines.{IsFit, is_skipped, IsEntry, thread_after, AreEntries, SayLines}
+use Rattle.heap_script.specs.Refusals.{option_words, after_option}
+use Rattle.heap_script.specs.Scripts.{calls_of, IsScript}
+use Rattle.heap_script.specs.Reading.Scripts.{line_at, line_of, entry_by, entry_at, entry_of, at_line, entries_from, script_from, script_of}
 use Rattle.heap_script.specs.Laws.{LinesAreRead, OptionsAreRead}
 use Rattle.heap_script.proofs.Steps.{bind_ok, ok_same, ok_is_not_err, some_same}
-use Rattle.heap_script.proofs.Facts.{Shown, entry_ok, at_line_ok}
+use Rattle.heap_script.proofs.EntrySteps.{Shown, entry_ok, at_line_ok}
 
 pub entry_from : (n : ℕ) (only : Option ℕ) (bytes : List ℕ) → IsFit bytes → n ≤ 65536 → entry_of n only bytes ≡ entry_at only (words_of bytes)
 unfolding entry_of

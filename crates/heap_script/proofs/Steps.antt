@@ -2,7 +2,8 @@
 use Rattle.std.proofs.Common.{◌≡◌, ℕ, ◌⊎◌, inl, inr, Bool, true, false, cond, List, [], ◌∷◌, Option, Some, None, Result, Ok, Err, refl, ap, ◌∙◌}
 use Rattle.heap_script.specs.declared.cause.Cause.{Cause}
 use Rattle.heap_script.specs.declared.cause.Cause.TheVariants.{TooManyArguments}
-use Rattle.heap_script.specs.Reading.{◌>>=◌, or_cause, next_as, no_more, whole}
+use Rattle.call_words.specs.Reading.Calls.{with_rest, next_as}
+use Rattle.heap_script.specs.Reading.Scripts.{◌>>=◌, or_cause, no_more, whole}
 
 -- a choice that gave a value went this way
 pub chosen : {A : Type 0} (b : Bool) (o : Option A) (x : A) → cond b o None ≡ Some x → (b ≡ true) × (o ≡ Some x)
@@ -24,10 +25,6 @@ pub bind_err : {A B E : Type 0} (r : Result A E) (f : A → Result B E) (d : E) 
 bind_err {A} {B} {E} (Ok x) f d e = inr (x, refl, e)
 bind_err {A} {B} {E} (Err c) f d e = inl (cc)
 
-pub regroup : {A B C E : Type 0} (r : Result A E) (f : A → Result B E) (g : B → Result C E) → (r >>= λ x. f x >>= g) ≡ ((r >>= f) >>= g)
-regroup (Ok x) f g = refl
-regroup (Err e) f g = refl
-
 pub ok_same : {A E : Type 0} (a b : A) → ◌≡◌ {A = Result A E} (Ok a) (Ok b) → a ≡ b
 ok_same a b e = cc
 
@@ -37,25 +34,32 @@ ok_is_not_err x d e = cc
 pub some_same : {A : Type 0} (a b : A) → Some a ≡ Some b → a ≡ b
 some_same a b e = cc
 
--- where the first word was read
-pub next_ok : {A : Type 0} (read : List ℕ → Option A) (cause : Cause) (words : List (List ℕ)) (x : A × List (List ℕ)) → next_as read cause words ≡ Ok x
+-- where the first word was read, or the cause was given
+pub or_ok : {A : Type 0} (cause : Cause) (o : Option A) (x : A) → or_cause cause o ≡ Ok x → o ≡ Some x
+or_ok cause None x e = cc
+or_ok cause (Some y) x e = cc
+
+pub or_err : {A : Type 0} (cause d : Cause) (o : Option A) → or_cause cause o ≡ Err d → (cause ≡ d) × (o ≡ None)
+or_err cause d None e = (cc, refl)
+or_err cause d (Some y) e = cc
+
+pub next_some : {A : Type 0} (read : List ℕ → Option A) (words : List (List ℕ)) (x : A × List (List ℕ)) → next_as read words ≡ Some x
     → (word : List ℕ) × (words ≡ word ∷ x.1) × (read word ≡ Some x.0)
 unfolding next_as
-next_ok read cause [] x e = cc
-next_ok {A} read cause (word ∷ words) x e =
-    let at : (o : Option A) → or_cause cause words o ≡ Ok x → (o ≡ Some x.0) × (words ≡ x.1) = elim [ None ↦ λ d. cc | Some y ↦ λ d. (cc, cc) ] in
+next_some read [] x e = cc
+next_some {A} read (word ∷ words) x e =
+    let at : (o : Option A) → with_rest words o ≡ Some x → (o ≡ Some x.0) × (words ≡ x.1) = elim [ None ↦ λ d. cc | Some y ↦ λ d. (cc, cc) ] in
     let p = at (read word) e in
     (word, ap (λ ws. word ∷ ws) p.1, p.0)
 
--- where the first word could not be read
-pub next_err : {A : Type 0} (read : List ℕ → Option A) (cause d : Cause) (words : List (List ℕ)) → next_as read cause words ≡ Err d
-    → (cause ≡ d) × ((word : List ℕ) (others : List (List ℕ)) (x : A) → words ≡ word ∷ others → read word ≡ Some x → ⊥)
+pub next_none : {A : Type 0} (read : List ℕ → Option A) (words : List (List ℕ)) → next_as read words ≡ None
+    → (word : List ℕ) (others : List (List ℕ)) (x : A) → words ≡ word ∷ others → read word ≡ Some x → ⊥
 unfolding next_as
-next_err read cause d [] e = (cc, λ word others x at is. cc)
-next_err {A} read cause d (w ∷ words) e =
-    let at : (o : Option A) → or_cause cause words o ≡ Err d → (cause ≡ d) × (o ≡ None) = elim [ None ↦ λ h. (cc, refl) | Some y ↦ λ h. cc ] in
-    let p = at (read w) e in
-    (p.0, λ word others x is some. cc)
+next_none read [] e word others x at is = cc
+next_none {A} read (w ∷ words) e word others x at is =
+    let none : (o : Option A) → with_rest words o ≡ None → o ≡ None = elim [ None ↦ λ h. refl | Some y ↦ λ h. cc ] in
+    let p = none (read w) e in
+    cc
 
 pub no_more_ok : (words : List (List ℕ)) (x : Unit {0}) → no_more words ≡ Ok x → words ≡ []
 unfolding no_more

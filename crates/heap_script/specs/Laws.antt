@@ -4,8 +4,10 @@ use Rattle.heap_script.specs.declared.cause.Cause.{Cause}
 use Rattle.heap_script.specs.declared.line.Line.{Line}
 use Rattle.heap_script.specs.declared.script.Script.{Script}
 use Rattle.heap_script.specs.declared.setting.Setting.{Setting}
-use Rattle.heap_script.specs.Reading.{Refusal, line_of, setting_of, script_of}
-use Rattle.heap_script.specs.Grammar.{IsLine, LineCause, SettingAt, SettingCause, IsScript, IsRefused}
+use Rattle.heap_script.specs.Lines.{IsLine, SettingAt}
+use Rattle.heap_script.specs.Refusals.{LineCause, SettingCause, Refusal}
+use Rattle.heap_script.specs.Scripts.{IsScript, IsRefused}
+use Rattle.heap_script.specs.Reading.Scripts.{line_of, setting_of, script_of}
 
 -- exactly the call lines of the grammar are read, each as what it says
 abbrev pub LinesAreRead : Type 0

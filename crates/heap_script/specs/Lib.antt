@@ -1,10 +1,8 @@
-pub mod Causes
-pub mod Names
-pub mod Settings
-pub mod Pieces
 pub mod Built
-pub mod Arguments
-pub mod Reading
+pub mod Settings
+pub mod Lines
+pub mod Causes
+pub mod Refusals
 pub mod Scripts
-pub mod Grammar
 pub mod Laws
+pub mod Reading

@@ -1,13 +1,72 @@
--- What parse answers, and what is known of a script
-use Rattle.std.specs.Prelude.{◌≡◌, ℕ, List, [], ◌∷◌, All, Result, Ok, Err}
+-- What a script is, what refuses a text that is none, and what is known of a script
+use Rattle.std.specs.Prelude.{◌≡◌, ◌+◌, ℕ, List, [], ◌∷◌, ◌++◌, length, All, Option, Some, None, Result, Ok, Err}
+use Rattle.az_base.specs.declared.action.Mode.TheVariants as mode
+use Rattle.az_base.specs.declared.options.Options.{Options}
+use Rattle.az_base.specs.OptionRanges.{usual_options}
+use Rattle.az_words.specs.Lines.{lines_of}
 use Rattle.zone_model.specs.declared.act.Act.{Act}
 use Rattle.zone_model.specs.declared.act.Act.TheVariants as act
 use Rattle.zone_model.specs.declared.call.Call.TheVariants as call
+use Rattle.call_words.specs.declared.keywords.CollectName.TheVariants as kind
+use Rattle.heap_script.specs.declared.entries.Entry.{Entry}
+use Rattle.heap_script.specs.declared.entries.Entry.TheVariants as entry
 use Rattle.heap_script.specs.declared.line.Line.{Line}
 use Rattle.heap_script.specs.declared.script.Script.{Script}
 use Rattle.heap_script.specs.declared.cause.ScriptErr.{ScriptErr}
 use Rattle.heap_script.specs.declared.cause.ScriptErr.TheVariants as errors
-use Rattle.heap_script.specs.Reading.{Refusal, script_of}
+use Rattle.heap_script.specs.Built.{is_built_kind, Holds}
+use Rattle.heap_script.specs.Settings.{with_setting}
+use Rattle.heap_script.specs.Lines.{SayLines}
+use Rattle.heap_script.specs.Refusals.{Refusal, HasCause}
+
+-- the options after a line
+abbrev pub with_entry : Options → Entry → Options
+with_entry o (entry.Set setting) = with_setting o setting
+with_entry o e = o
+
+-- the options after these lines: of two lines for one option the later counts
+abbrev pub options_after : Options → List Entry → Options
+options_after o [] = o
+options_after o (e ∷ entries) = options_after (with_entry o e) entries
+
+-- a call line before others
+abbrev pub onto_calls : Entry → List Line → List Line
+onto_calls (entry.Call line) lines = line ∷ lines
+onto_calls e lines = lines
+
+-- the call lines among these
+abbrev pub calls_of : List Entry → List Line
+calls_of [] = []
+calls_of (e ∷ entries) = onto_calls e (calls_of entries)
+
+-- the bytes are this script
+pub record IsScript (bytes : List ℕ) (script : Script) : Type 0 where
+  pub entries : List Entry
+  pub said : SayLines (lines_of bytes) entries
+  pub options : script.options ≡ options_after usual_options entries
+  pub lines : script.lines ≡ calls_of entries
+
+-- the thread of the first of these lines
+abbrev pub first_thread : List Line → Option ℕ
+first_thread [] = None
+first_thread (line ∷ lines) = Some line.thread
+
+-- a line has this cause, and the lines before it have none
+pub record IsRefused (bytes : List ℕ) (refusal : Refusal) : Type 0 where
+  pub before : List (List ℕ)
+  pub line : List ℕ
+  pub after : List (List ℕ)
+  pub entries : List Entry
+  pub cut : lines_of bytes ≡ before ++ line ∷ after
+  pub number : refusal.line ≡ length before + 1
+  pub said : SayLines before entries
+  pub cause : HasCause refusal.line (first_thread (calls_of entries)) line refusal.cause
+
+-- what a text is found to be: a script, or refused; memory may run out
+abbrev pub Parses : List ℕ → Result Script ScriptErr → Type 0
+Parses bytes (Ok script) = IsScript bytes script
+Parses bytes (Err (errors.Refused cause line)) = IsRefused bytes (record { cause = cause; line = line })
+Parses bytes (Err errors.NoMemory) = Unit {0}
 
 -- each line is of this thread
 abbrev pub AllOf : ℕ → List Line → Type 0
@@ -38,18 +97,11 @@ IsBuilt (act.Call (call.GetAssoc to object key)) = Unit {0}
 IsBuilt (act.Call (call.SetWeak loc from)) = Unit {0}
 IsBuilt (act.Call (call.ReadWeak to loc)) = Unit {0}
 IsBuilt (act.Call call.Stats) = Unit {0}
+IsBuilt (act.Call call.CollectLocal) = Holds (is_built_kind kind.Local)
+IsBuilt (act.Collect mode.Young) = Holds (is_built_kind kind.Young)
+IsBuilt (act.Collect mode.Full) = Holds (is_built_kind kind.Full)
 IsBuilt _ = ⊥
 
 -- each line asks for what is built
 abbrev pub AllBuilt : List Line → Type 0
 AllBuilt lines = All (λ line. IsBuilt line.act) lines
-
--- parse refused what is no script, or memory ran out
-abbrev pub Refuses : ScriptErr → Result Script Refusal → Type 0
-Refuses (errors.Refused cause line) read = read ≡ Err (record { cause = cause; line = line })
-Refuses errors.NoMemory read = Unit {0}
-
--- parse answered what the bytes say, or memory ran out
-abbrev pub Parses : List ℕ → Result Script ScriptErr → Type 0
-Parses bytes (Ok script) = script_of bytes ≡ Ok script
-Parses bytes (Err e) = Refuses e (script_of bytes)

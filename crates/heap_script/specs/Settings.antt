@@ -1,11 +1,10 @@
 -- The options that a script sets
-use Rattle.std.specs.Prelude.{List, [], ◌∷◌, ℕ, Option, codes}
+use Rattle.std.specs.Prelude.{List, ℕ, codes}
 use Rattle.az_base.specs.declared.options.Options.{Options}
 use Rattle.heap_script.specs.declared.setting.OptionName.{OptionName}
 use Rattle.heap_script.specs.declared.setting.OptionName.TheVariants as option
 use Rattle.heap_script.specs.declared.setting.Setting.{Setting}
 use Rattle.heap_script.specs.declared.setting.Setting.TheVariants as setting
-use Rattle.heap_script.specs.Names.{name_among}
 
 -- how an option is written
 abbrev pub option_text : OptionName → List ℕ
@@ -14,10 +13,6 @@ option_text option.Local = codes "local"
 option_text option.Serials = codes "serials"
 option_text option.Counts = codes "counts"
 option_text option.Pending = codes "pending"
-
--- the option that a word names
-unfoldable pub option_of : List ℕ → Option OptionName
-option_of word = name_among option_text (option.Heap ∷ option.Local ∷ option.Serials ∷ option.Counts ∷ option.Pending ∷ []) word
 
 -- the least number that an option may have
 abbrev pub least : OptionName → ℕ

@@ -3,12 +3,13 @@ ghost use Rattle.std.specs.Prelude.{◌≡◌};
 ghost use Rattle.heap_script.specs.Causes.{err_at};
 ghost use Rattle.heap_script.specs.declared.cause.ScriptErr.TheVariants.{NoMemory};
 
+use call_words::ArgumentErr;
 use std::alloc::{AllocError, AllocFailed};
 use std::fmt;
 use thiserror::Error;
 
 /// What is wrong with a line: the first of these that stands.
-#[derive(Clone, Copy, Debug, PartialEq, Eq, Hash)]
+#[derive(Clone, Copy, Debug, PartialEq, Eq)]
 pub enum Cause {
     /// The line isn't UTF-8.
     NotText,
@@ -47,7 +48,7 @@ impl fmt::Display for Cause {
 }
 
 /// Why a line was not read.
-#[derive(Clone, Copy, Debug, PartialEq, Eq)]
+#[derive(Clone, Copy)]
 pub enum LineErr {
     Cause(Cause),
     NoMemory,
@@ -75,23 +76,16 @@ impl From<Cause> for LineErr {
     }
 }
 
-impl From<AllocError> for LineErr {
-    ghost use Rattle.heap_script.specs.declared.cause.LineErr.{LineErr};
+impl From<ArgumentErr> for LineErr {
+    ghost use Rattle.heap_script.specs.Causes.{line_err};
 
-    ghost from_gives = { λ _ e. e ≡ LineErr.NoMemory };
+    ghost from_gives = { λ err e. e ≡ line_err err };
 
-    fn from(_e: AllocError) -> LineErr {
-        LineErr::NoMemory
-    }
-}
-
-impl<T: Drop> From<AllocFailed<T>> for LineErr {
-    ghost use Rattle.heap_script.specs.declared.cause.LineErr.{LineErr};
-
-    ghost from_gives = { λ _ e. e ≡ LineErr.NoMemory };
-
-    fn from(_e: AllocFailed<T>) -> LineErr {
-        LineErr::NoMemory
+    fn from(err: ArgumentErr) -> LineErr {
+        match err {
+            ArgumentErr::Wrong => LineErr::Cause(Cause::WrongArgument),
+            ArgumentErr::NoMemory => LineErr::NoMemory,
+        }
     }
 }
 

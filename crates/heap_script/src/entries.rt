@@ -1,15 +1,17 @@
 //! What a line says.
 ghost use Rattle.std.specs.Prelude.{◌≡◌, ◌≤◌, IfOk, IfSome, IfNone, Some, None};
 ghost use Rattle.az_words.specs.Words.{words_of};
-ghost use Rattle.heap_script.specs.Reading.{Gives, same_thread, line_of, setting_of, is_skipped, after_option, entry_by, entry_of};
+ghost use Rattle.heap_script.specs.Lines.{is_skipped};
+ghost use Rattle.heap_script.specs.Refusals.{after_option};
+ghost use Rattle.heap_script.specs.Reading.Scripts.{Gives, no_more, same_thread, line_of, setting_of, entry_by, entry_of};
 
-use crate::calls::arguments;
+use crate::built::{MOST_ACTIONS, next_built};
 use crate::cause::{Cause, LineErr};
 use crate::line::Line;
-use crate::pieces::{next_name, next_number, next_option, next_thread, next_wide_number, no_more};
-use crate::setting::{OptionName, Setting};
+use crate::setting::{OptionName, Setting, next_option};
 use az_base::ThreadNo;
 use az_words::{Words, is_text, is_word, next_word};
+use call_words::{arguments, next_number, next_thread, next_wide_number};
 use std::alloc::Global;
 
 /// The most bytes of a line, its line feed not counted.
@@ -19,11 +21,22 @@ const MOST_BYTES: usize = 8192;
 const MOST_LINES: u32 = 65_536;
 
 /// What a line says: nothing where it is skipped, an option, or a call.
-#[derive(Debug, Drop)]
+#[derive(Drop)]
 pub enum Entry {
     Nothing,
     Set(Setting),
     Call(Line),
+}
+
+/// No word is left.
+#[tactic(auto, unfolding(crate::specs::Reading::Scripts::no_more))]
+fn no_more(words: &mut Words) -> Result<(), Cause>
+    ensures { result ≡ no_more words.old }
+{
+    match words.next() {
+        None => Ok(()),
+        Some(_) => Err(Cause::TooManyArguments),
+    }
 }
 
 /// A thread is the only one so far.
@@ -43,38 +56,50 @@ fn same_thread(only: Option<ThreadNo>, thread: ThreadNo) -> Result<(), Cause>
 }
 
 /// A call line, after call lines of this thread.
-#[tactic(auto, unfolding(crate::specs::Reading::line_of, crate::specs::Reading::line_at))]
+#[tactic(auto, unfolding(crate::specs::Reading::Scripts::line_of, crate::specs::Reading::Scripts::line_at))]
 fn call_line(alloc: Global, only: Option<ThreadNo>, line: &[u8]) -> Result<Line, LineErr>
     ensures { Gives result (line_of only (words_of line.now)) }
 {
     let mut words = Words::new(line);
-    let thread = next_thread(&mut words)?;
-    let name = next_name(&mut words)?;
+    let thread = next_thread(&mut words).ok_or(Cause::NoThread)?;
+    let name = next_built(&mut words).ok_or(Cause::NoCall)?;
     same_thread(only, thread)?;
-    let act = arguments(alloc, name, &mut words)?;
+    let act = arguments(alloc, name, MOST_ACTIONS, &mut words)?;
     no_more(&mut words)?;
     Ok(Line { thread, act })
 }
 
 /// An option and a number in its range.
-#[tactic(auto, unfolding(crate::specs::Reading::setting_of))]
+#[tactic(auto, unfolding(crate::specs::Reading::Scripts::setting_of))]
 fn setting(line: &[u8]) -> Result<Setting, Cause>
     ensures { result ≡ setting_of (words_of line.now) }
 {
     let mut words = Words::new(line);
-    let setting = match next_option(&mut words)? {
-        OptionName::Heap => Setting::Heap(next_number(1, 1_048_576, &mut words)?),
-        OptionName::Local => Setting::Local(next_number(0, 65_536, &mut words)?),
-        OptionName::Serials => Setting::Serials(next_wide_number(1, 4_294_967_296, &mut words)?),
-        OptionName::Counts => Setting::Counts(next_number(1, u32::MAX, &mut words)?),
-        OptionName::Pending => Setting::Pending(next_number(1, 4_096, &mut words)?),
+    let setting = match next_option(&mut words).ok_or(Cause::NoCall)? {
+        OptionName::Heap => Setting::Heap(next_number(1, 1_048_576, &mut words).ok_or(
+            Cause::WrongArgument,
+        )?),
+        OptionName::Local => Setting::Local(next_number(0, 65_536, &mut words).ok_or(
+            Cause::WrongArgument,
+        )?),
+        OptionName::Serials => Setting::Serials(next_wide_number(
+            1,
+            4_294_967_296,
+            &mut words,
+        ).ok_or(Cause::WrongArgument)?),
+        OptionName::Counts => Setting::Counts(next_number(1, u32::MAX, &mut words).ok_or(
+            Cause::WrongArgument,
+        )?),
+        OptionName::Pending => Setting::Pending(next_number(1, 4_096, &mut words).ok_or(
+            Cause::WrongArgument,
+        )?),
     };
     no_more(&mut words)?;
     Ok(setting)
 }
 
 /// What comes after `option`, where it begins the line and no call line came before.
-#[tactic(auto, unfolding(crate::specs::Reading::after_option))]
+#[tactic(auto, unfolding(crate::specs::Refusals::after_option))]
 fn after_option<'a>(only: &Option<ThreadNo>, line: &'a [u8]) -> Option<&'a [u8]>
     ensures some { IfSome result (λ rest. after_option only.now (words_of line.now) ≡ Some (words_of rest.now)) }
     ensures none { IfNone result (after_option only.now (words_of line.now) ≡ None) }
@@ -91,7 +116,7 @@ fn after_option<'a>(only: &Option<ThreadNo>, line: &'a [u8]) -> Option<&'a [u8]>
 }
 
 /// The line has no word, or its first word begins with `#`.
-#[tactic(auto, unfolding(crate::specs::Reading::is_skipped))]
+#[tactic(auto, unfolding(crate::specs::Lines::is_skipped))]
 fn is_skipped(line: &[u8]) -> bool
     ensures { result ≡ is_skipped (words_of line.now) }
 {
@@ -103,7 +128,7 @@ fn is_skipped(line: &[u8]) -> bool
 }
 
 /// An option line where option lines may still stand, and else a call line.
-#[tactic(auto, unfolding(crate::specs::Reading::entry_by))]
+#[tactic(auto, unfolding(crate::specs::Reading::Scripts::entry_by))]
 fn option_or_call(alloc: Global, only: Option<ThreadNo>, line: &[u8]) -> Result<Entry, LineErr>
     ensures { Gives result (entry_by only (words_of line.now) (after_option only (words_of line.now))) }
 {
@@ -120,7 +145,7 @@ fn option_or_call(alloc: Global, only: Option<ThreadNo>, line: &[u8]) -> Result<
 }
 
 /// What the line of this number says, after call lines of this thread. O(bytes).
-#[tactic(auto, unfolding(crate::specs::Reading::entry_of))]
+#[tactic(auto, unfolding(crate::specs::Reading::Scripts::entry_of))]
 pub fn read_entry(
     alloc: Global,
     number: u32,

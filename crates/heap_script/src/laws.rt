@@ -3,12 +3,15 @@
 ghost use Rattle.heap_script.specs.Laws.{LinesAreRead, LinesAreRefused, OptionsAreRead, OptionsAreRefused, ScriptsAreRead, ScriptsAreRefused};
 
 use az_words::numbers_are_read;
+use call_words::{arguments_are_read, names_are_read};
 
 /// Exactly the call lines of the grammar are read, each as what it says.
 pub fn lines_are_read()
     ensures { LinesAreRead }
 {
     numbers_are_read();
+    names_are_read();
+    arguments_are_read();
 }
 
 /// A call line is refused exactly where it lacks what the grammar wants, with that cause.
@@ -16,6 +19,8 @@ pub fn lines_are_refused()
     ensures { LinesAreRefused }
 {
     numbers_are_read();
+    names_are_read();
+    arguments_are_read();
 }
 
 /// After the word `option` exactly an option and a number in its range are read.

@@ -7,20 +7,13 @@
 #![tactic(auto)]
 
 mod built;
-mod call_name;
-mod calls;
 mod cause;
 mod entries;
-mod keywords;
 mod laws;
 mod line;
-mod memory;
-mod pieces;
 mod reading;
 mod script;
 mod setting;
-#[cfg(test)]
-mod tests;
 
 pub use cause::{Cause, ScriptErr};
 pub use laws::{

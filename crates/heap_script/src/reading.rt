@@ -1,15 +1,17 @@
 //! Reading a script, line by line.
 ghost use Rattle.std.specs.Prelude.{◌≡◌, IfOk};
 ghost use Rattle.az_base.specs.OptionRanges.{IsValid};
-ghost use Rattle.heap_script.specs.Reading.{first_thread};
-ghost use Rattle.heap_script.specs.Scripts.{Parses, OneThread, AllBuilt};
+ghost use Rattle.heap_script.specs.Scripts.{first_thread, Parses, OneThread, AllBuilt};
+ghost use Rattle.heap_script.specs.Reading.Scripts.{IsRead};
 
 use crate::cause::ScriptErr;
 use crate::entries::{Entry, read_entry};
+use crate::laws::{scripts_are_read, scripts_are_refused};
 use crate::line::{Line, LineList};
 use crate::script::Script;
 use az_base::{Options, ThreadNo};
 use az_words::next_line;
+use call_words::collect_names_are_read;
 use std::alloc::Global;
 
 /// The thread of the first call line.
@@ -26,10 +28,14 @@ fn first_thread(lines: &[Line]) -> Option<ThreadNo>
 /// first cause of that line. A last line needs no line feed. O(bytes).
 pub fn parse(alloc: Global, bytes: &[u8]) -> Result<Script, ScriptErr>
     ensures gives { Parses bytes.now result }
+    ensures reads { IsRead bytes.now result }
     ensures options { IfOk result (λ script. IsValid script.options) }
     ensures one_thread { IfOk result (λ script. OneThread script.lines) }
     ensures built { IfOk result (λ script. AllBuilt script.lines) }
 {
+    scripts_are_read();
+    scripts_are_refused();
+    collect_names_are_read();
     let mut options = Options::usual();
     let mut lines = Vec::new(alloc);
     let mut number = 0u32;

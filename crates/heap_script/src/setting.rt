@@ -1,12 +1,14 @@
 //! The options that a script sets.
 ghost use Rattle.std.specs.Prelude.{◌≡◌};
-ghost use Rattle.heap_script.specs.Settings.{option_of, with_setting};
+ghost use Rattle.heap_script.specs.Settings.{with_setting};
+ghost use Rattle.heap_script.specs.Reading.Scripts.{option_of};
+ghost use Rattle.call_words.specs.Reading.Calls.{Reads, next_as};
 
 use az_base::Options;
-use az_words::is_word;
+use az_words::{Words, is_word};
 
 /// An option that a script can name.
-#[derive(Clone, Copy, Debug, PartialEq, Eq)]
+#[derive(Clone, Copy)]
 pub enum OptionName {
     Heap,
     Local,
@@ -16,8 +18,8 @@ pub enum OptionName {
 }
 
 /// The option that a word names; None exactly where it names none.
-#[tactic(auto, unfolding(crate::specs::Settings::option_of))]
-pub fn option_name(word: &[u8]) -> Option<OptionName>
+#[tactic(auto, unfolding(crate::specs::Reading::Scripts::option_of))]
+fn option_name(word: &[u8]) -> Option<OptionName>
     ensures { result ≡ option_of word.now }
 {
     if is_word(word, b"heap") {
@@ -35,8 +37,16 @@ pub fn option_name(word: &[u8]) -> Option<OptionName>
     }
 }
 
+#[tactic(auto, unfolding(call_words::specs::Reading::Calls::next_as))]
+pub fn next_option(words: &mut Words) -> Option<OptionName>
+    ensures { Reads result words.new (next_as option_of words.old) }
+{
+    let word = words.next()?;
+    option_name(word)
+}
+
 /// What an option line says: an option, and its number.
-#[derive(Clone, Copy, Debug, PartialEq, Eq)]
+#[derive(Clone, Copy, Debug)]
 pub enum Setting {
     Heap(u32),
     Local(u32),

@@ -1,22 +1,27 @@
-use Rattle.std.proofs.Common.{◌≡◌, ◌+◌, Result, Ok, sym, ap, ◌∙◌, arith}
+use Rattle.std.proofs.Common.{◌≡◌, ◌+◌, Result, Ok, Err, sym, ap, ◌∙◌, arith}
 use Rattle.az_words.specs.Lines.{lines_of}
 use Rattle.heap_script.specs.declared.cause.Cause.{Cause}
 use Rattle.heap_script.specs.declared.entries.Entry.{Entry}
 use Rattle.heap_script.specs.declared.entries.Entry.TheVariants as entry
-use Rattle.heap_script.specs.Reading.{entry_of, first_thread, script_of}
+use Rattle.heap_script.specs.Scripts.{first_thread}
+use Rattle.heap_script.specs.Reading.Scripts.{entry_of, script_of}
 use Rattle.heap_script.proofs.Loop.{at_start, says_at, errs_at, ends_at}
 use Rattle.heap_script.proofs.Facts.{one_thread, all_built, valid_options}
+use Rattle.heap_script.proofs.Found.{found}
 use Rattle.heap_script.proofs.reading.parse.Goals as goal
 
 pub lines-init : goal.lines-init
 lines-init c = record { read = rw (c.usual-options.ensures, c.new-lines.ensures.items) (at_start c.args.bytes.now); few = omega arith }
 
-pub returns-in-Err-clause-gives : goal.returns-in-Err-clause-gives
-returns-in-Err-clause-gives c =
+pub returns-in-Err-clause-reads : goal.returns-in-Err-clause-reads
+returns-in-Err-clause-reads c =
     let is = sym (c.first_thread.ensures ∙ ap first_thread c.deref.ensures.value) in
     rw c.at_line.ensures
     (errs_at c.lines.options c.lines.lines.items (c.lines.number + 1) (lines_of c.in-Some.after.now) (lines_of c.lines.rest.now) c.in-Some.line.now c.in-Err.err c.first_thread.result c.args.bytes.now
     c.in-Some.ensures.some is c.in-Err.ensures.says c.lines.invariant.read)
+
+pub returns-in-Err-clause-gives : goal.returns-in-Err-clause-gives
+returns-in-Err-clause-gives c = found c.scripts_are_read.ensures c.scripts_are_refused.ensures c.args.bytes.now (Err c.at_line.result) (returns-in-Err-clause-reads c)
 
 pub lines-preserved-in-Ok-Nothing : goal.lines-preserved-in-Ok-Nothing
 lines-preserved-in-Ok-Nothing c =
@@ -55,10 +60,13 @@ lines-preserved c =
       few = omega (arith, c.in-Ok-Call.ensures.few);
     }
 
-pub returns-clause-gives : goal.returns-clause-gives
-returns-clause-gives c =
+pub returns-clause-reads : goal.returns-clause-reads
+returns-clause-reads c =
     rw c.from_vec.ensures
     (ends_at c.lines.options c.lines.lines.items (c.lines.number + 1) (lines_of c.lines.rest.now) (script_of c.args.bytes.now) c.in_default.ensures.none c.lines.invariant.read)
+
+pub returns-clause-gives : goal.returns-clause-gives
+returns-clause-gives c = (c.scripts_are_read.ensures c.args.bytes.now (record { options = c.lines.options; lines = c.from_vec.result })).0 (returns-clause-reads c)
 
 pub returns-clause-options : goal.returns-clause-options
 returns-clause-options c = valid_options c.args.bytes.now (record { options = c.lines.options; lines = c.from_vec.result }) (returns-clause-gives c)
@@ -67,4 +75,4 @@ pub returns-clause-one_thread : goal.returns-clause-one_thread
 returns-clause-one_thread c = one_thread c.args.bytes.now (record { options = c.lines.options; lines = c.from_vec.result }) (returns-clause-gives c)
 
 pub returns-clause-built : goal.returns-clause-built
-returns-clause-built c = all_built c.args.bytes.now (record { options = c.lines.options; lines = c.from_vec.result }) (returns-clause-gives c)
+returns-clause-built c = all_built c.collect_names_are_read.ensures c.args.bytes.now (record { options = c.lines.options; lines = c.from_vec.result }) (returns-clause-gives c)

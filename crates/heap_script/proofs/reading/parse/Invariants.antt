@@ -1,6 +1,6 @@
 use Rattle.std.proofs.Common.{◌≡◌, ◌+◌, ◌≤◌, length}
 use Rattle.az_words.specs.Lines.{lines_of}
-use Rattle.heap_script.specs.Reading.{script_of}
+use Rattle.heap_script.specs.Reading.Scripts.{script_of}
 use Rattle.heap_script.proofs.Loop.{total}
 use Rattle.heap_script.proofs.reading.parse.Given as goal
 

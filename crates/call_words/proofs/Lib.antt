@@ -1,0 +1,5 @@
+pub mod Steps
+pub mod Actions
+pub mod Objects
+pub mod WordLaws
+pub mod ArgumentLaws

@@ -1,0 +1,75 @@
+-- What a line of a script is
+use Rattle.std.specs.Prelude.{◌≡◌, ◌≤◌, ◌==◌, ℕ, Bool, true, false, List, [], ◌∷◌, length, All, Option, Some, None, codes}
+use Rattle.std.specs.Str.{IsUtf8}
+use Rattle.az_words.specs.Words.{words_of}
+use Rattle.az_words.specs.Grammar.{IsNumberIn}
+use Rattle.call_words.specs.declared.names.CallName.{CallName}
+use Rattle.call_words.specs.Names.{name_text}
+use Rattle.call_words.specs.Grammar.{AsksAt}
+use Rattle.heap_script.specs.declared.entries.Entry.{Entry}
+use Rattle.heap_script.specs.declared.entries.Entry.TheVariants as entry
+use Rattle.heap_script.specs.declared.line.Line.{Line}
+use Rattle.heap_script.specs.declared.setting.OptionName.{OptionName}
+use Rattle.heap_script.specs.declared.setting.Setting.{Setting}
+use Rattle.heap_script.specs.Built.{is_built_before, most_actions}
+use Rattle.heap_script.specs.Settings.{option_text, least, largest, setting_to}
+
+-- text of at most 8,192 bytes
+pub record IsFit (line : List ℕ) : Type 0 where
+  pub text : IsUtf8 line
+  pub short : length line ≤ 8192
+
+-- the words of a line that says nothing: there are none, or the first one begins with #
+unfoldable pub is_skipped : List (List ℕ) → Bool
+is_skipped [] = true
+is_skipped ([] ∷ words) = false
+is_skipped ((c ∷ word) ∷ words) = c == 35
+
+-- the thread of the call lines before, where there are some
+abbrev pub IsOnly : Option ℕ → ℕ → Type 0
+IsOnly None t = Unit {0}
+IsOnly (Some only) t = t ≡ only
+
+-- a call line, after call lines of this thread: a thread, a call that is built, and its arguments; these words are left
+pub record LineAt (only : Option ℕ) (words : List (List ℕ)) (line : Line) (left : List (List ℕ)) : Type 0 where
+  pub first : List ℕ
+  pub name : CallName
+  pub others : List (List ℕ)
+  pub spelled : words ≡ first ∷ name_text name ∷ others
+  pub thread : IsNumberIn 1 16 first line.thread
+  pub built : is_built_before name others ≡ true
+  pub same : IsOnly only line.thread
+  pub asks : AsksAt most_actions name others line.act left
+
+-- a call line, and no more
+abbrev pub IsLine : Option ℕ → List (List ℕ) → Line → Type 0
+IsLine only words line = LineAt only words line []
+
+-- an option, a number in its range, and these words are left
+abbrev pub SettingAt : List (List ℕ) → Setting → List (List ℕ) → Type 0
+SettingAt words set left =
+    (name : OptionName) × (number : List ℕ) × (n : ℕ) × (words ≡ option_text name ∷ number ∷ left) × IsNumberIn (least name) (largest name) number n × (set ≡ setting_to name n)
+
+-- what the words of a line say, after call lines of this thread; an option line stands before the first call line alone
+abbrev pub IsEntry : Option ℕ → List (List ℕ) → Entry → Type 0
+IsEntry only words entry.Nothing = is_skipped words ≡ true
+IsEntry only words (entry.Set set) = (only ≡ None) × (others : List (List ℕ)) × (words ≡ codes "option" ∷ others) × SettingAt others set []
+IsEntry only words (entry.Call line) = (is_skipped words ≡ false) × IsLine only words line
+
+-- the only thread after a line
+abbrev pub thread_after : Option ℕ → Entry → Option ℕ
+thread_after (Some t) e = Some t
+thread_after None (entry.Call line) = Some line.thread
+thread_after None e = None
+
+-- the lines with these words say what stands at their place, after call lines of this thread
+abbrev pub AreEntries : Option ℕ → List (List ℕ) → List Entry → Type 0
+AreEntries only [] [] = Unit {0}
+AreEntries only (line ∷ more) (e ∷ entries) = IsEntry only (words_of line) e × AreEntries (thread_after only e) more entries
+AreEntries only _ _ = ⊥
+
+-- the lines of a text say this, line by line
+pub record SayLines (text : List (List ℕ)) (entries : List Entry) : Type 0 where
+  pub few : length text ≤ 65536
+  pub fit : All IsFit text
+  pub says : AreEntries None text entries

@@ -1,0 +1,146 @@
+-- What a script says, or the first cause of its first line that has one, as it is read
+use Rattle.std.specs.Prelude.{◌≡◌, ℕ, ◌+◌, true, List, [], ◌∷◌, length, ◌==◌, nat_lt, if◌then◌else◌, Option, Some, None, Result, Ok, Err, not}
+use Rattle.std.specs.Str.{is_utf8}
+use Rattle.az_base.specs.OptionRanges.{usual_options}
+use Rattle.az_words.specs.Lines.{lines_of}
+use Rattle.az_words.specs.Words.{words_of}
+use Rattle.az_words.specs.Names.{name_among}
+use Rattle.az_words.specs.Numerals.{number_in}
+use Rattle.call_words.specs.declared.names.CallName.{CallName}
+use Rattle.call_words.specs.Names.{name_of}
+use Rattle.call_words.specs.Reading.Words.{thread_of}
+use Rattle.call_words.specs.Reading.Calls.{next_as, act_at}
+use Rattle.heap_script.specs.declared.cause.Cause.{Cause}
+use Rattle.heap_script.specs.declared.cause.Cause.TheVariants.{NotText, LineTooLong, TooManyLines, NoThread, NoCall, WrongArgument, TooManyArguments}
+use Rattle.heap_script.specs.declared.cause.LineErr.{LineErr}
+use Rattle.heap_script.specs.declared.cause.LineErr.TheVariants as errors
+use Rattle.heap_script.specs.declared.cause.ScriptErr.{ScriptErr}
+use Rattle.heap_script.specs.declared.cause.ScriptErr.TheVariants as scripts
+use Rattle.heap_script.specs.declared.entries.Entry.{Entry}
+use Rattle.heap_script.specs.declared.entries.Entry.TheVariants as entry
+use Rattle.heap_script.specs.declared.line.Line.{Line}
+use Rattle.heap_script.specs.declared.script.Script.{Script}
+use Rattle.heap_script.specs.declared.setting.OptionName.{OptionName}
+use Rattle.heap_script.specs.declared.setting.OptionName.TheVariants as option
+use Rattle.heap_script.specs.declared.setting.Setting.{Setting}
+use Rattle.heap_script.specs.Built.{is_built_before, most_actions}
+use Rattle.heap_script.specs.Settings.{option_text, least, largest, setting_to}
+use Rattle.heap_script.specs.Lines.{is_skipped, thread_after}
+use Rattle.heap_script.specs.Refusals.{after_option, Refusal}
+use Rattle.heap_script.specs.Scripts.{options_after, calls_of}
+
+-- the second step with what the first one gave, or the first one's error
+infixl 10 ◌>>=◌
+abbrev pub ◌>>=◌ : {A B E : Type 0} → Result A E → (A → Result B E) → Result B E
+(Ok x) >>= f = f x
+(Err e) >>= f = Err e
+
+-- what a function answered is what reading gives, unless memory ran out
+abbrev pub Gives : {X : Type 0} → Result X LineErr → Result X Cause → Type 0
+Gives (Ok x) read = read ≡ Ok x
+Gives (Err (errors.Cause cause)) read = read ≡ Err cause
+Gives (Err errors.NoMemory) read = Unit {0}
+
+-- what was read, or this cause
+abbrev pub or_cause : {A : Type 0} → Cause → Option A → Result A Cause
+or_cause cause None = Err cause
+or_cause cause (Some x) = Ok x
+
+-- no word is left
+unfoldable pub no_more : List (List ℕ) → Result (Unit {0}) Cause
+no_more [] = Ok tt
+no_more (word ∷ words) = Err TooManyArguments
+
+-- all that was read, where no word is left
+abbrev pub whole : {A : Type 0} → Result (A × List (List ℕ)) Cause → Result A Cause
+whole read = do
+  x ← read
+  end ← no_more x.1
+  Ok x.0
+
+-- a call and the words after its name, where it is built
+abbrev pub where_built : CallName × List (List ℕ) → Option (CallName × List (List ℕ))
+where_built x = if is_built_before x.0 x.1 then Some x else None
+
+-- the same of a name that may not be there
+abbrev pub built_by : Option (CallName × List (List ℕ)) → Option (CallName × List (List ℕ))
+built_by None = None
+built_by (Some x) = where_built x
+
+-- the call that is built and that the first word names, and the words after it
+unfoldable pub next_built : List (List ℕ) → Option (CallName × List (List ℕ))
+next_built words = built_by (next_as name_of words)
+
+-- the thread of the first call line, where there was one, is the only one
+abbrev pub same_thread : Option ℕ → ℕ → Result (Unit {0}) Cause
+same_thread None t = Ok tt
+same_thread (Some only) t = if only == t then Ok tt else Err WrongArgument
+
+-- a call line, after lines of this thread, and the words after it
+unfoldable pub line_at : Option ℕ → List (List ℕ) → Result (Line × List (List ℕ)) Cause
+line_at only words = do
+  thread ← or_cause NoThread (next_as thread_of words)
+  name ← or_cause NoCall (next_built thread.1)
+  same ← same_thread only thread.0
+  act ← or_cause WrongArgument (act_at most_actions name.0 name.1)
+  Ok (record { thread = thread.0; act = act.0 }, act.1)
+
+-- a call line, after lines of this thread
+unfoldable pub line_of : Option ℕ → List (List ℕ) → Result Line Cause
+line_of only words = whole (line_at only words)
+
+-- the option that a word names
+unfoldable pub option_of : List ℕ → Option OptionName
+option_of word = name_among option_text (option.Heap ∷ option.Local ∷ option.Serials ∷ option.Counts ∷ option.Pending ∷ []) word
+
+-- an option and a number in its range, and no more
+unfoldable pub setting_of : List (List ℕ) → Result Setting Cause
+setting_of words = do
+  name ← or_cause NoCall (next_as option_of words)
+  number ← or_cause WrongArgument (next_as (number_in (least name.0) (largest name.0)) name.1)
+  end ← no_more number.1
+  Ok (setting_to name.0 number.0)
+
+-- an option line where there are words after option, and else a call line
+unfoldable pub entry_by : Option ℕ → List (List ℕ) → Option (List (List ℕ)) → Result Entry Cause
+entry_by only words (Some others) = setting_of others >>= λ setting. Ok (entry.Set setting)
+entry_by only words None = line_of only words >>= λ line. Ok (entry.Call line)
+
+-- a line that isn't refused as a whole
+abbrev pub entry_at : Option ℕ → List (List ℕ) → Result Entry Cause
+entry_at only words = if is_skipped words then Ok entry.Nothing else entry_by only words (after_option only words)
+
+-- what the line of this number says, after lines of this thread
+unfoldable pub entry_of : ℕ → Option ℕ → List ℕ → Result Entry Cause
+entry_of n only line =
+    if not (is_utf8 line) then Err NotText
+    else if nat_lt 8192 (length line) then Err LineTooLong
+    else if nat_lt 65536 n then Err TooManyLines
+    else entry_at only (words_of line)
+
+-- a cause at this line
+abbrev pub at_line : {A : Type 0} → ℕ → Result A Cause → Result A Refusal
+at_line n (Ok x) = Ok x
+at_line n (Err c) = Err (record { cause = c; line = n })
+
+-- what the lines from this number on say, after lines of this thread
+unfoldable pub entries_from : ℕ → Option ℕ → List (List ℕ) → Result (List Entry) Refusal
+entries_from n only [] = Ok []
+entries_from n only (line ∷ lines) = do
+  first ← at_line n (entry_of n only line)
+  others ← entries_from (n + 1) (thread_after only first) lines
+  Ok (first ∷ others)
+
+-- what the lines say, as a script
+abbrev pub script_from : List Entry → Script
+script_from entries = record { options = options_after usual_options entries; lines = calls_of entries }
+
+-- the script that the bytes are, or why they are none
+unfoldable pub script_of : List ℕ → Result Script Refusal
+script_of bytes = entries_from 1 None (lines_of bytes) >>= λ entries. Ok (script_from entries)
+
+-- what was answered is what reading gives, unless memory ran out
+abbrev pub IsRead : List ℕ → Result Script ScriptErr → Type 0
+IsRead bytes (Ok script) = script_of bytes ≡ Ok script
+IsRead bytes (Err (scripts.Refused cause line)) = script_of bytes ≡ Err (record { cause = cause; line = line })
+IsRead bytes (Err scripts.NoMemory) = Unit {0}

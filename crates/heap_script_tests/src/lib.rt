@@ -1,0 +1,7 @@
+//! Tests of scripts and of the words of calls: worked rows, each read or refused as a reader of the rules would say.
+//!
+//! They stand in a crate of their own, since a crate with tests is proved twice.
+#![tactic(auto)]
+
+#[cfg(test)]
+mod tests;
