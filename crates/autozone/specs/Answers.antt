@@ -11,7 +11,8 @@ use Rattle.zone_model.specs.declared.entry.Stats.{Stats}
 use Rattle.heap_script.specs.declared.cause.Cause.{Cause}
 use Rattle.heap_script.specs.declared.cause.Cause.TheVariants as causes
 use Rattle.heap_script.specs.declared.script.Script.{Script}
-use Rattle.heap_script.specs.Reading.{Refusal, script_of}
+use Rattle.heap_script.specs.Refusals.{Refusal}
+use Rattle.heap_script.specs.Reading.Scripts.{script_of}
 use Rattle.autozone.specs.declared.status.Status.{Status}
 use Rattle.autozone.specs.declared.status.Status.TheVariants as status
 use Rattle.autozone.specs.declared.status.Stop.{Stop}
