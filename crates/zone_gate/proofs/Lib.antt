@@ -1,0 +1,11 @@
+pub mod Begins
+pub mod Owning
+pub mod Rows
+pub mod Tickets
+pub mod Changing
+pub mod Turning
+pub mod Sharing
+pub mod Tokens
+pub mod Gathers
+pub mod Ends
+pub mod Lives

@@ -1,0 +1,6 @@
+use Rattle.std.proofs.Common.{rules}
+use Rattle.zone_gate.proofs.Tokens.{token_notes}
+use Rattle.zone_gate.proofs.steps.split_seen.Goals as goal
+
+pub split_seat-requires : goal.split_seat-requires
+split_seat-requires g c = (search rules, search rules, token_notes g.V.Kept.list g.V.Kept.chosen _ _ _ _ c.requires.rest.view)
