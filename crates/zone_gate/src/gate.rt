@@ -199,7 +199,7 @@ impl<V: Kept + Drop> Gate<V> {
         requires ascending { AllPairs (λ t u. t < u) threads.now }
         requires empty { V.list value ≡ [] }
         ensures gate { IfOk result (λ r. (r.0.options ≡ V.chosen value) × (r.0.threads ≡ threads.now)) }
-        ensures seats { IfOk result (λ r. r.1.items ≡ map (new_seat r.0.id (V.chosen value)) threads.now) }
+        ensures seats { IfOk result (λ r. r.1.items ≡ map (new_seat r.0.id r.0.options) threads.now) }
     {
         let options = value.options();
         let kept = copied(alloc, threads)?;
