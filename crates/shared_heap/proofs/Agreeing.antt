@@ -1,5 +1,5 @@
 -- What the heap's calls leave of the agreement between its table of holds and the state
-use Rattle.std.proofs.Common.{◌≡◌, ◌<◌, ◌≤◌, ◌+◌, ◌==◌, ◌&&◌, ◌||◌, ◌⊎◌, ℕ, zero, suc, Bool, true, false, cond, List, ◌∷◌, MatchOption, Option, Some, None, IsSome, IsTrue, is_some, refl, sym, ap, subst, ◌∙◌, arith, inl, inr}
+use Rattle.std.proofs.Common.{◌≡◌, ◌<◌, ◌≤◌, ◌+◌, ◌==◌, ◌&&◌, ◌||◌, ◌⊎◌, ℕ, zero, suc, Bool, true, false, cond, List, [], ◌∷◌, MatchOption, Option, Some, None, IsSome, IsTrue, is_some, refl, sym, ap, subst, ◌∙◌, arith, inl, inr}
 use Rattle.std.proofs.lemmas.Bool.Decides.{nat_tests}
 use Rattle.std.specs.Option.{option_and_then}
 use Rattle.std.specs.FinMap.{get}
@@ -20,7 +20,7 @@ use Rattle.zone_model.proofs.Steps.{none_escaped, tells_none}
 use Rattle.shared_heap.specs.Shared.{Shared, held}
 use Rattle.shared_heap.specs.Stands.{Stands, kept_of, escaped_view}
 use Rattle.shared_heap.specs.Steps.{names}
-use Rattle.shared_heap.specs.Holding.{is_block, registers_with, holds_of, is_off, HoldsAgree, HoldsAgreeBut, HoldsMore, HoldsSet, HoldsOnceMore, ReadsTo, replaced}
+use Rattle.shared_heap.specs.Holding.{is_block, registers_with, holds_of, is_off, HoldsAgree, HoldsAgreeBut, HoldsMore, HoldsSet, HoldsOnceMore, ReadsTo, pair_of, replaced}
 
 -- a register past those that are counted
 registers_past : (n to : ℕ) (v : Option BlockId) (f : ℕ → Option BlockId) (q : BlockId) → n ≤ to → registers_with n (λ r. cond (to == r) v (f r)) q ≡ registers_with n f q
@@ -59,6 +59,19 @@ registers_of : (b : Bool) (to : ℕ) (v : Option BlockId) (f : ℕ → Option Bl
     → registers_with 16 (λ r. cond (b && (to == r)) v (f r)) q + cond (b && is_block q (f to)) 1 0 ≡ registers_with 16 f q + cond (b && is_block q v) 1 0
 registers_of true to v f q l = registers_put 16 to v f q l
 registers_of false to v f q l = refl
+
+-- what the threads' registers hold, where a register of one was written
+pub register_moved : (z : State) (t to u : ℕ) (v : Option BlockId) (q : BlockId) → to < 16
+    → registers_with 16 (λ r. cond ((t == u) && (to == r)) v (z.registers u r)) q + cond ((t == u) && is_block q (z.registers t to)) 1 0 ≡ registers_with 16 (z.registers u) q + cond ((t == u) && is_block q v) 1 0
+register_moved z t to u v q few = go (t == u) refl
+  where
+    go : (b : Bool) → (t == u) ≡ b
+        → registers_with 16 (λ r. cond ((t == u) && (to == r)) v (z.registers u r)) q + cond ((t == u) && is_block q (z.registers t to)) 1 0 ≡ registers_with 16 (z.registers u) q + cond ((t == u) && is_block q v) 1 0
+    go true e = let mine : t ≡ u = grind (arith, nat_tests) in rw mine (registers_of (u == u) to v (z.registers u) q few)
+    go false e = rw e (registers_of false to v (z.registers u) q few)
+
+pub moved_sums : (a b w m n : ℕ) → a + m ≡ b + n → (b + w) + n ≡ (a + w) + m
+moved_sums a b w m n e = omega (arith, e)
 
 -- an escaped block is one of the heap's
 pub here_escaped : (h : Shared) (z : State) (q : BlockId) → Stands h z → IsTrue (is_escaped z q) → IsSome (get h.blocks q)
@@ -136,16 +149,8 @@ once_more h new z after t to c r same few s agree more step = go (step_reads z a
         let held_now : held new u q ≡ held h u q + cond ((t == u) && names r q) 1 0 = more u q (here_escaped h z q s out) in
         let named : names r q ≡ is_block q k.0 = ap (λ x. names x q) k.1 ∙ names_it k.0 q in
         let was : held h u q ≡ holds_of (part_of z u) q = agree u q out in
-        let moved = registers_at u q k.0 (t == u) refl in
-        rw (named, was) at held_now ∙ sums _ _ _ _ _ moved))
-      where
-        sums : (a b w m n : ℕ) → a + m ≡ b + n → (b + w) + n ≡ (a + w) + m
-        sums a b w m n e = omega (arith, e)
-
-        registers_at : (u : ℕ) (q : BlockId) (v : Option BlockId) (b : Bool) → (t == u) ≡ b
-            → registers_with 16 (λ r. cond ((t == u) && (to == r)) v (z.registers u r)) q + cond ((t == u) && is_block q (z.registers t to)) 1 0 ≡ registers_with 16 (z.registers u) q + cond ((t == u) && is_block q v) 1 0
-        registers_at u q v true e = let mine : t ≡ u = grind (arith, nat_tests) in rw mine (registers_of (u == u) to v (z.registers u) q few)
-        registers_at u q v false e = rw e (registers_of false to v (z.registers u) q few)
+        let moved = register_moved z t to u k.0 q few in
+        rw (named, was) at held_now ∙ moved_sums _ _ _ _ _ moved))
     go (inr k) = subst (λ a. HoldsOnceMore new a t (replaced r (z.registers t to))) (sym k.2) (subst (λ x. HoldsOnceMore new z t (replaced x (z.registers t to))) (sym k.1) (λ u q out.
         let held_now : held new u q ≡ held h u q + cond ((t == u) && names r q) 1 0 = more u q (here_escaped h z q s out) in
         let unnamed : names r q ≡ false = ap (λ x. names x q) k.1 in
@@ -164,3 +169,15 @@ said h new z t id off agree sets u q out on = sets u q ∙ go (t == u) refl (sam
     go true e true f = let mine : t ≡ u = grind (arith, nat_tests) in ap (λ k. holds_of (part_of z k) id) mine ∙ ap (holds_of (part_of z u)) (same (id_cmp id q) refl f)
     go true e false f = agree u q out (ap (λ b. b || is_off off u q) (ap (λ x. x && same_id id q) e ∙ f) ∙ on)
     go false e b f = agree u q out (ap (λ b. b || is_off off u q) (ap (λ x. x && same_id id q) e) ∙ on)
+
+-- what is counted once more is one pair, and where there is none, all agrees
+pub one_pair : (h : Shared) (z : State) (t : ℕ) (before : Option BlockId) → HoldsOnceMore h z t before → HoldsAgreeBut (pair_of t before) h z
+one_pair h z t None once u q out on = once u q out ∙ nothing (t == u) (holds_of (part_of z u) q)
+one_pair h z t (Some id) once u q out on = once u q out ∙ go ((t == u) && same_id id q) on
+  where
+    go : (b : Bool) → (b || false) ≡ false → holds_of (part_of z u) q + cond b 1 0 ≡ holds_of (part_of z u) q
+    go true e = cc (e)
+    go false e = omega arith
+
+pub no_pair : (h : Shared) (z : State) → HoldsAgreeBut [] h z → HoldsAgree h z
+no_pair h z agree u q out = agree u q out refl

@@ -15,3 +15,6 @@ pub mod Assocs
 pub mod Weak
 pub mod Agreeing
 pub mod Alike
+pub mod Shut
+pub mod Admitting
+pub mod Unheld

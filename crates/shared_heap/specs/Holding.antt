@@ -12,9 +12,12 @@ use Rattle.zone_model.specs.declared.call.Call.{Call}
 use Rattle.zone_model.specs.declared.call.Call.TheVariants as call
 use Rattle.zone_model.specs.declared.entry.Reply.{Reply}
 use Rattle.zone_model.specs.declared.entry.Reply.TheVariants as reply
+use Rattle.zone_model.specs.Escape.{block_named}
 use Rattle.zone_model.specs.Maps.{total}
 use Rattle.zone_model.specs.Part.{Part, part_of}
-use Rattle.zone_model.specs.State.{State, is_escaped}
+use Rattle.zone_model.specs.Reach.{WordEdge}
+use Rattle.zone_model.specs.Sound.{Knows}
+use Rattle.zone_model.specs.State.{State, is_escaped, is_unescaped}
 use Rattle.shared_heap.specs.Shared.{Shared, held}
 use Rattle.shared_heap.specs.Steps.{names}
 
@@ -60,6 +63,38 @@ HoldsMore old new t r = (u : ℕ) (q : BlockId) → IsSome (get old.blocks q) �
 -- the thread holds the block so often, and all else is held as before
 abbrev pub HoldsSet : Shared → Shared → ℕ → BlockId → ℕ → Type 0
 HoldsSet old new t id n = (u : ℕ) (q : BlockId) → held new u q ≡ (if (t == u) && same_id id q then n else held old u q)
+
+-- the block, which has just come in, is held by nobody, and all else is held as before
+abbrev pub HoldsAdmitted : Shared → Shared → BlockId → Type 0
+HoldsAdmitted old new id = (u : ℕ) (q : BlockId) → held new u q ≡ (if same_id id q then 0 else held old u q)
+
+-- the block that was born, if one was, is held by its thread once, and all else is held as before
+abbrev pub HoldsBorn : Shared → Shared → ℕ → Reply → Type 0
+HoldsBorn old new t r = (u : ℕ) (q : BlockId) → held new u q ≡ (if names r q then (if t == u then 1 else 0) else held old u q)
+
+-- what a thread holds has escaped, or is an unescaped block of its own: so much of soundness lasts while blocks escape
+pub record HoldsItsOwn (z : State) : Type 0 where
+  pub registers : (t r : ℕ) (b : BlockId) → z.registers t r ≡ Some b → Knows z t b
+  pub words : (a b : BlockId) → IsTrue (is_unescaped z a) → WordEdge z.blocks a b → Knows z a.thread b
+
+-- null, or a block that has escaped
+abbrev pub IsShared : State → Option BlockId → Type 0
+IsShared z None = Unit {0}
+IsShared z (Some b) = IsTrue (is_escaped z b)
+
+-- the call reads into no register, and what it writes to or gives to others has escaped: so it leaves the parts of the threads
+abbrev pub LeavesParts : State → ℕ → Call → Type 0
+LeavesParts z t (call.Store into at from) = IsShared z (z.registers t into) × IsShared z (z.registers t from)
+LeavesParts z t (call.Put into at number) = IsShared z (z.registers t into)
+LeavesParts z t (call.Get from at) = Unit {0}
+LeavesParts z t (call.SetRoot root from) = IsShared z (z.registers t from)
+LeavesParts z t (call.Retain reg) = IsShared z (z.registers t reg)
+LeavesParts z t (call.Release reg) = Unit {0}
+LeavesParts z t (call.Count reg) = Unit {0}
+LeavesParts z t (call.SetAssoc object key value) = IsShared z (z.registers t object) × IsShared z (z.registers t value)
+LeavesParts z t (call.SetWeak loc from) = IsShared z (z.registers t from) × IsShared z (block_named z t loc)
+LeavesParts z t call.Stats = Unit {0}
+LeavesParts z t _ = ⊥
 
 -- the block that a register of the thread held before, if it was one, is counted once more
 abbrev pub HoldsOnceMore : Shared → State → ℕ → Option BlockId → Type 0

@@ -1,15 +1,25 @@
 //! Theorems over heaps and the states for which they stand. Each is the contract of a function that does nothing.
-ghost use Rattle.std.specs.Prelude.{◌≡◌, ◌<◌, ℕ, ◌∷◌, List};
+ghost use Rattle.std.specs.Prelude.{◌≡◌, ◌<◌, ℕ, true, [], ◌∷◌, ◌++◌, List, None, Option};
+ghost use Rattle.std.specs.FinMap.{get};
+ghost use Rattle.az_base.specs.declared.action.Action.{Action};
 ghost use Rattle.az_base.specs.declared.block_id.BlockId.{BlockId};
+ghost use Rattle.az_base.specs.declared.word.Word.{Word};
+ghost use Rattle.az_base.specs.Ids.{same_id, id_of};
+ghost use Rattle.block_layouts.specs.declared.layout.Layout.{Layout};
 ghost use Rattle.zone_model.specs.declared.call.Call.{Call};
+ghost use Rattle.zone_model.specs.declared.call.Call.TheVariants as call;
 ghost use Rattle.zone_model.specs.declared.entry.Reply.{Reply};
+ghost use Rattle.zone_model.specs.Escape.{with_escaped};
 ghost use Rattle.zone_model.specs.Part.{part_of};
+ghost use Rattle.zone_model.specs.Quanta.{is_born_escaped};
 ghost use Rattle.zone_model.specs.SameShared.{SameShared};
+ghost use Rattle.zone_model.specs.Sound.{Sound};
 ghost use Rattle.zone_model.specs.State.{State};
 ghost use Rattle.zone_model.specs.Step.{Step};
-ghost use Rattle.shared_heap.specs.Holding.{holds_of, HoldsAgree, HoldsAgreeBut, HoldsMore, HoldsSet, HoldsOnceMore, ReadsTo, replaced};
+ghost use Rattle.shared_heap.specs.Holding.{holds_of, pair_of, pairs_in, replaced, HoldsAgree, HoldsAgreeBut, HoldsMore, HoldsBorn, HoldsSet, HoldsAdmitted, HoldsItsOwn, HoldsOnceMore, HoldsAsBefore, ReadsTo};
 ghost use Rattle.shared_heap.specs.Shared.{Shared};
 ghost use Rattle.shared_heap.specs.Stands.{Stands};
+ghost use Rattle.shared_heap.specs.Steps.{IsUnescaped};
 
 /// A heap that stands for a state stands for each that is alike in what is shared: so what a thread does to its own
 /// registers and unescaped blocks leaves the heap as it is, also where an open cycle has seen it.
@@ -27,4 +37,35 @@ pub fn reads_count_what_they_replace_once_more()
 /// Where `hold_count` says the number of a thread and a block, these agree, and all that agreed before.
 pub fn what_is_said_agrees()
     ensures { (h new : Shared) (z : State) (t : ℕ) (id : BlockId) (off : List (ℕ × BlockId)) → HoldsAgreeBut ((t, id) ∷ off) h z → HoldsSet h new t id (holds_of (part_of z t) id) → HoldsAgreeBut off new z }
+{}
+
+/// A birth counts the block that the register held before once more, for the thread, and all else agrees: nobody else
+/// can hold the new block yet.
+pub fn births_count_what_they_replace_once_more()
+    ensures { (h new : Shared) (z after : State) (t to : ℕ) (layout : Layout) (actions : List Action) (r : Reply) → to < 16 → HoldsItsOwn z → get z.blocks (id_of t (z.serials t)) ≡ None
+        → is_born_escaped z t layout actions ≡ true → HoldsAgree h z → HoldsBorn h new t r → Step z (record { thread = t; call = call.New to layout actions; reply = r }) after
+        → HoldsOnceMore new after t (replaced r (z.registers t to)) }
+{}
+
+/// A block that `admit` lets in counts as not held, and the escaped blocks in its words count as often as before, when
+/// its thread held them by those words; all else agrees (`exact`). While several escape, what didn't agree before adds up
+/// (`but`), and each thread still holds its own alone (`own`).
+pub fn admitted_blocks_leave_the_holds_as_before()
+    ensures exact { (h new : Shared) (z : State) (id : BlockId) (layout : Layout) (words : List Word) → HoldsAgree h z → IsUnescaped z id layout words → HoldsAdmitted h new id
+        → HoldsAsBefore new (with_escaped z (same_id id)) id words }
+    ensures but { (h new : Shared) (z : State) (id : BlockId) (layout : Layout) (words : List Word) (off : List (ℕ × BlockId)) → HoldsItsOwn z → HoldsAgreeBut off h z → IsUnescaped z id layout words → HoldsAdmitted h new id
+        → HoldsAgreeBut ((id.thread, id) ∷ (pairs_in id.thread words ++ off)) new (with_escaped z (same_id id)) }
+    ensures own { (z : State) (id : BlockId) (layout : Layout) (words : List Word) → HoldsItsOwn z → IsUnescaped z id layout words → HoldsItsOwn (with_escaped z (same_id id)) }
+{}
+
+/// In a sound state each thread holds but what has escaped and what is its own.
+pub fn sound_states_hold_their_own()
+    ensures { (z : State) → Sound z → HoldsItsOwn z }
+{}
+
+/// Where all agrees but for what a register held before, it is that pair alone that doesn't; and where no pair is left,
+/// all agrees.
+pub fn once_more_is_one_pair()
+    ensures pair { (h : Shared) (z : State) (t : ℕ) (before : Option BlockId) → HoldsOnceMore h z t before → HoldsAgreeBut (pair_of t before) h z }
+    ensures none { (h : Shared) (z : State) → HoldsAgreeBut [] h z → HoldsAgree h z }
 {}
