@@ -78,6 +78,43 @@ none_needed z = total_nothing ids_total exact_ids z.blocks
 below : (a b : ℕ) → nat_lt b a ≡ false → a ≤ b
 below a b h = grind (arith, nat_tests)
 
+-- unescaped blocks escape, with all that they lead to
+module _ (z : State) (s : Intact z) (need : BlockId → Bool) (inside : (q : BlockId) → need q ≡ true → IsTrue (is_unescaped z q))
+    (more : (a b : BlockId) → need a ≡ true → Edge z a b → IsTrue (is_unescaped z b) → need b ≡ true) (fits : used_quanta z + quanta_needed z need ≤ z.options.heap_quanta) where
+  abbrev after : State
+  after = with_escaped z need
+
+  there : (q : BlockId) → need q ≡ true → IsTrue (is_some (get z.blocks q))
+  there q h = there_inside (get z.blocks q) (inside q h)
+
+  still_knows : (u : ℕ) (b : BlockId) → IsTrue (is_own z u b) → Knows after u b
+  still_knows u b h = by_need (need b) refl
+    where
+      by_need : (n : Bool) → need b ≡ n → Knows after u b
+      by_need true e = inl (now_escaped z need b e (there b e))
+      by_need false e = inr (ap (λ o. (b.thread == u) && is_inside o) (not_needed z need b e) ∙ h)
+
+  edges : (a b : BlockId) → WordEdge after.blocks a b → MayRefer after a b
+  edges a b e =
+      let was = found_escaped z need a e.0 e.2 in
+      let edge : WordEdge z.blocks a b = (was.0, e.1, was.1, ap (λ ws. slice_get ws e.1) was.2 ∙ e.3) in
+      by_end edge (s.names.words a b edge)
+    where
+      by_need : WordEdge z.blocks a b → IsTrue (is_unescaped z a) → IsTrue (is_own z a.thread b) → (m n : Bool) → need a ≡ m → need b ≡ n → MayRefer after a b
+      by_need edge was own m true f e = inl (now_escaped z need b e (there b e))
+      by_need edge was own true false f e =
+          let too : need b ≡ true = more a b f (inl edge) (own_inside z a.thread b own) in
+          let no : true ≡ false = sym too ∙ e in
+          cc (no)
+      by_need edge was own false false f e = inr (ap is_inside (not_needed z need a f) ∙ was, ap (λ o. (b.thread == a.thread) && is_inside o) (not_needed z need b e) ∙ own)
+
+      by_end : WordEdge z.blocks a b → MayRefer z a b → MayRefer after a b
+      by_end edge (inl out) = inl (still_escaped z need b out)
+      by_end edge (inr own) = by_need edge own.0 own.1 (need a) (need b) refl refl
+
+  pub closed_intact : Intact after
+  closed_intact = grown_intact z s after.blocks (still_escaped z need) still_knows edges (let used : used_quanta after ≡ used_quanta z + quanta_needed z need = escaped_used z need inside in omega (arith, used, fits))
+
 module _ (z : State) (s : Intact z) (t : ℕ) (c : Call) (need : BlockId → Bool) (tells : Tells need (Need z t c)) (right : misuse_of z t c need ≡ None) where
   -- what escapes fits
   needed_fits : used_quanta z + quanta_needed z need ≤ z.options.heap_quanta
@@ -97,39 +134,8 @@ module _ (z : State) (s : Intact z) (t : ℕ) (c : Call) (need : BlockId → Boo
       by_call (call.SetWeak loc from) k r = full (right_full z t (call.SetWeak loc from) need r).0
       by_call _ k r = nothing (tells_none need _ k (λ id n. n))
 
-  abbrev after : State
-  after = with_escaped z need
-
-  there : (q : BlockId) → need q ≡ true → IsTrue (is_some (get z.blocks q))
-  there q h = there_inside (get z.blocks q) (need_inside z t c q ((tells q).0 h))
-
-  still_knows : (u : ℕ) (b : BlockId) → IsTrue (is_own z u b) → Knows after u b
-  still_knows u b h = by_need (need b) refl
-    where
-      by_need : (n : Bool) → need b ≡ n → Knows after u b
-      by_need true e = inl (now_escaped z need b e (there b e))
-      by_need false e = inr (ap (λ o. (b.thread == u) && is_inside o) (not_needed z need b e) ∙ h)
-
-  edges : (a b : BlockId) → WordEdge after.blocks a b → MayRefer after a b
-  edges a b e =
-      let was = found_escaped z need a e.0 e.2 in
-      let edge : WordEdge z.blocks a b = (was.0, e.1, was.1, ap (λ ws. slice_get ws e.1) was.2 ∙ e.3) in
-      by_end edge (s.names.words a b edge)
-    where
-      by_need : WordEdge z.blocks a b → IsTrue (is_unescaped z a) → IsTrue (is_own z a.thread b) → (m n : Bool) → need a ≡ m → need b ≡ n → MayRefer after a b
-      by_need edge inside own m true f e = inl (now_escaped z need b e (there b e))
-      by_need edge inside own true false f e =
-          let more : need b ≡ true = (tells b).1 (need_more z t c a b ((tells a).0 f) (inl edge) (own_inside z a.thread b own)) in
-          let no : true ≡ false = sym more ∙ e in
-          cc (no)
-      by_need edge inside own false false f e = inr (ap is_inside (not_needed z need a f) ∙ inside, ap (λ o. (b.thread == a.thread) && is_inside o) (not_needed z need b e) ∙ own)
-
-      by_end : WordEdge z.blocks a b → MayRefer z a b → MayRefer after a b
-      by_end edge (inl out) = inl (still_escaped z need b out)
-      by_end edge (inr own) = by_need edge own.0 own.1 (need a) (need b) refl refl
-
-  pub escape_intact : Intact after
-  escape_intact = grown_intact z s after.blocks (still_escaped z need) still_knows edges (let used : used_quanta after ≡ used_quanta z + quanta_needed z need = escaped_used z need (λ q h. need_inside z t c q ((tells q).0 h)) in omega (arith, used, needed_fits))
+  pub escape_intact : Intact (with_escaped z need)
+  escape_intact = closed_intact z s need (λ q h. need_inside z t c q ((tells q).0 h)) (λ a b h e un. (tells b).1 (need_more z t c a b ((tells a).0 h) e un)) needed_fits
 
 -- what a call rests on, once the blocks that it needs have escaped
 abbrev pub Rests : State → ℕ → Call → Type 0

@@ -35,6 +35,15 @@ pub mod ReachedChanges
 pub mod Reaching
 pub mod BlocksFit
 pub mod Soundness
+pub mod Ascending
+pub mod AtOnce
+pub mod Replied
+pub mod Groups
+pub mod Alone
+pub mod Cycling
+pub mod Reclaimed
+pub mod WeakReads
 pub mod Sharing
 pub mod LocalGains
 pub mod OthersCycles
+pub mod SoundLaws

@@ -210,7 +210,7 @@ mapped f (Some x) = refl
 escaped_same : (z : State) (need : BlockId → Bool) (b : BlockId) → is_some (get (with_escaped z need).blocks b) ≡ is_some (get z.blocks b)
 escaped_same z need b = ap is_some (get-map_values id_cmp _ exact_ids z.blocks b) ∙ mapped _ (get z.blocks b)
 
-escaped_known : (z : State) (need : BlockId → Bool) (b : BlockId) → Known (with_escaped z need) b → Known z b
+pub escaped_known : (z : State) (need : BlockId → Bool) (b : BlockId) → Known (with_escaped z need) b → Known z b
 escaped_known z need b (inl here) = inl (sym (escaped_same z need b) ∙ here)
 escaped_known z need b (inr is) = inr is
 

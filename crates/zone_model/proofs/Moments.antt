@@ -63,6 +63,9 @@ keeps_after z after c adds keeps = record {
   outside = λ a b n e i. elim (adds a b e) [ inl f ↦ was_more (moment after) c b (keeps.outside a b n f i) | inr k ↦ was_now after c b k ];
 }
 
+pub keeps_with_moment : (z after : State) (c : Cycle) → c.condemned ≡ None → AddsToAnchored z after c → KeepsReached z c → KeepsReached after (with_moment (moment after) c)
+keeps_with_moment z after c uncondemned adds keeps = subst (KeepsReached after) (sym (sees (moment after) c uncondemned)) (keeps_after z after c adds keeps)
+
 not_both : (t : Bool) → IsTrue t → IsFalse t → ⊥
 not_both true a b = let e : true ≡ false = b in cc
 not_both false a b = let e : false ≡ true = a in cc

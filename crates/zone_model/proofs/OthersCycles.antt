@@ -1,5 +1,5 @@
 -- What others do leaves a thread's cycle as it was
-use Rattle.std.proofs.Common.{◌≡◌, ℕ, ◌==◌, Bool, true, false, cond, not, ◌&&◌, ◌||◌, List, [], ◌∷◌, Option, Some, None, MatchOption, IsTrue, refl, sym, ap, subst, ◌∙◌, is_some, eq-eqb, fold, slice_set}
+use Rattle.std.proofs.Common.{◌≡◌, ℕ, ◌==◌, Bool, true, false, cond, not, ◌&&◌, ◌||◌, List, [], ◌∷◌, Option, Some, None, MatchOption, IsTrue, refl, sym, ap, subst, ◌∙◌, is_some, eq-eqb, fold, slice_set, ◌⊎◌, inl, inr}
 use Rattle.std.specs.List.{list_any}
 use Rattle.std.specs.Option.{option_map, option_map_or}
 use Rattle.std.specs.declared.cmp.Ordering.{Ordering}
@@ -25,10 +25,10 @@ use Rattle.zone_model.specs.Misuses.{misuse_of}
 use Rattle.zone_model.specs.Collection.{HasCycle, awaits, with_action, actions_of}
 use Rattle.zone_model.specs.Effect.{Effect, new_block, with_new, weak_loc}
 use Rattle.zone_model.specs.Step.{Step, Happens, seen_now, with_moment}
-use Rattle.zone_model.specs.History.{Run, Ends}
+use Rattle.zone_model.specs.History.{is_cycle_step, Run, Ends}
 use Rattle.zone_model.proofs.Made.{AllMade, step_made}
 use Rattle.zone_model.proofs.Intact.{Intact}
-use Rattle.zone_model.specs.Laws.{SameCycle, CycleStays, NoneOf}
+use Rattle.zone_model.specs.Phases.{SameCycle, CycleStays, NoneOf}
 use Rattle.zone_model.proofs.Blocks.{not_both, own_inside, there_out, edit_get, left_get, escape_at, got_escaped}
 use Rattle.zone_model.proofs.IntactEscapes.{escape_intact}
 use Rattle.zone_model.proofs.IntactCycles.{condemned_out}
@@ -87,7 +87,11 @@ edit_waits m id f actions finalised q = ap waits_of (edit_get m id f q) ∙ by (
     by true (Some b) = ap (λ acts. not (is_nil acts) && not (f b).finalised) (actions b) ∙ ap (λ done. not (is_nil b.actions) && not done) (finalised b)
     by false o = refl
 
-module _ (z : State) (s : Intact z) (u t : ℕ) (other : (u == t) ≡ false) where
+-- the call is no step of a cycle, or is another thread's
+abbrev pub IsApart : ℕ → ℕ → Call → Type 0
+IsApart u t c = (is_cycle_step c ≡ false) ⊎ ((u == t) ≡ false)
+
+module _ (z : State) (s : Intact z) (u t : ℕ) where
   word_stays : (a : Option BlockId) (at : ℕ) (w : Word) → CycleStays t z (with_word z a at w)
   word_stays None at w = stays_same t z
   word_stays (Some id) at w = kept t z (with_word z (Some id) at w) s refl (λ b out. edit_waits z.blocks id (λ b. record b { words = slice_set b.words at w }) (λ b. refl) (λ b. refl) b)
@@ -120,8 +124,8 @@ module _ (z : State) (s : Intact z) (u t : ℕ) (other : (u == t) ≡ false) whe
   weak_stays (Some l) v = kept t z (with_weak z l v) s refl (λ b out. refl)
 
   -- where the open cycle was u's, and is u's or closed, t has none
-  neither : (a : State) (c : Cycle) → HasCycle z u c → ((d : Cycle) → HasCycle a t d → ⊥) → CycleStays t z a
-  neither a c mine none = record { still = λ d has. absurd (one_owner z u t c d other mine has); before = λ d has. absurd (none d has) }
+  neither : (u == t) ≡ false → (a : State) (c : Cycle) → HasCycle z u c → ((d : Cycle) → HasCycle a t d → ⊥) → CycleStays t z a
+  neither other a c mine none = record { still = λ d has. absurd (one_owner z u t c d other mine has); before = λ d has. absurd (none d has) }
 
   plain : (a : State) → a.cycle ≡ z.cycle → a.blocks ≡ z.blocks → CycleStays t z a
   plain a same blocks = kept t z a s same (λ b out. ap (λ (m : FinMap id_cmp Block). waits_of (get m b)) blocks)
@@ -131,38 +135,42 @@ module _ (z : State) (s : Intact z) (u t : ℕ) (other : (u == t) ≡ false) whe
   actions_cycle b (action.Keep g ∷ more) y = actions_cycle b more (with_action b y (action.Keep g))
   actions_cycle b (action.Pass g at ∷ more) y = actions_cycle b more (with_action b y (action.Pass g at))
 
-  effect_stays : (c : Call) (r : Reply) (a : State) → get z.blocks (id_of u (z.serials u)) ≡ None → Effect z u c r a → CycleStays t z a
-  effect_stays (call.New to layout actions) (reply.Block id) a free h = subst (CycleStays t z) (sym h.1) (new_stays to layout actions free)
-  effect_stays (call.Load to from at) (reply.Block b) a free h = subst (CycleStays t z) (sym h.1) (plain _ refl refl)
-  effect_stays (call.Store into at from) reply.Done a free h = subst (CycleStays t z) (sym h) (word_stays (z.registers u into) at (reference (z.registers u from)))
-  effect_stays (call.Put into at number) reply.Done a free h = subst (CycleStays t z) (sym h) (word_stays (z.registers u into) at (word.Number number))
-  effect_stays (call.Get from at) (reply.Number k) a free h = subst (CycleStays t z) (sym h.1) (stays_same t z)
-  effect_stays (call.Copy to from) reply.Done a free h = subst (CycleStays t z) (sym h) (plain _ refl refl)
-  effect_stays (call.DropReg reg) reply.Done a free h = subst (CycleStays t z) (sym h) (plain _ refl refl)
-  effect_stays call.CollectLocal (reply.Reclaimed gone) a free h = subst (CycleStays t z) (sym h.1) (gone_stays _ gone.list refl refl (λ q taken. ((h.0.1 q).0 taken).0))
-  effect_stays (call.SetRoot root from) reply.Done a free h = subst (CycleStays t z) (sym h) (plain _ refl refl)
-  effect_stays (call.GetRoot to root) (reply.Block b) a free h = subst (CycleStays t z) (sym h.1) (plain _ refl refl)
-  effect_stays (call.Retain reg) (reply.Number k) a free h = subst (CycleStays t z) (sym h.1) (count_stays (z.registers u reg) k)
-  effect_stays (call.Release reg) (reply.Number k) a free h = subst (CycleStays t z) (sym h.1) (count_stays (z.registers u reg) k)
-  effect_stays (call.Count reg) (reply.Number k) a free h = subst (CycleStays t z) (sym h.1) (stays_same t z)
-  effect_stays (call.Take to id) (reply.Block i) a free h = subst (CycleStays t z) (sym h.1) (plain _ refl refl)
-  effect_stays (call.SetAssoc object key value) (reply.Block b) a free h = subst (CycleStays t z) (sym h.1) (assoc_stays (z.registers u object) (z.registers u value) key.0)
-  effect_stays (call.GetAssoc to object key) (reply.Block b) a free h = subst (CycleStays t z) (sym h.1) (plain _ refl refl)
-  effect_stays (call.SetWeak loc from) (reply.Block v) a free h = subst (CycleStays t z) (sym h.1) (weak_stays (weak_loc z u loc) v)
-  effect_stays (call.ReadWeak to loc) (reply.Block b) a free h = subst (CycleStays t z) (sym h.1) (plain _ refl refl)
-  effect_stays call.Stats (reply.Stats k) a free h = subst (CycleStays t z) (sym h.1) (stays_same t z)
-  effect_stays (call.Begin mode) reply.Begun a free h = record {
+  effect_stays : (c : Call) (r : Reply) (a : State) → IsApart u t c → get z.blocks (id_of u (z.serials u)) ≡ None → Effect z u c r a → CycleStays t z a
+  effect_stays (call.New to layout actions) (reply.Block id) a apart free h = subst (CycleStays t z) (sym h.1) (new_stays to layout actions free)
+  effect_stays (call.Load to from at) (reply.Block b) a apart free h = subst (CycleStays t z) (sym h.1) (plain _ refl refl)
+  effect_stays (call.Store into at from) reply.Done a apart free h = subst (CycleStays t z) (sym h) (word_stays (z.registers u into) at (reference (z.registers u from)))
+  effect_stays (call.Put into at number) reply.Done a apart free h = subst (CycleStays t z) (sym h) (word_stays (z.registers u into) at (word.Number number))
+  effect_stays (call.Get from at) (reply.Number k) a apart free h = subst (CycleStays t z) (sym h.1) (stays_same t z)
+  effect_stays (call.Copy to from) reply.Done a apart free h = subst (CycleStays t z) (sym h) (plain _ refl refl)
+  effect_stays (call.DropReg reg) reply.Done a apart free h = subst (CycleStays t z) (sym h) (plain _ refl refl)
+  effect_stays call.CollectLocal (reply.Reclaimed gone) a apart free h = subst (CycleStays t z) (sym h.1) (gone_stays _ gone.list refl refl (λ q taken. ((h.0.1 q).0 taken).0))
+  effect_stays (call.SetRoot root from) reply.Done a apart free h = subst (CycleStays t z) (sym h) (plain _ refl refl)
+  effect_stays (call.GetRoot to root) (reply.Block b) a apart free h = subst (CycleStays t z) (sym h.1) (plain _ refl refl)
+  effect_stays (call.Retain reg) (reply.Number k) a apart free h = subst (CycleStays t z) (sym h.1) (count_stays (z.registers u reg) k)
+  effect_stays (call.Release reg) (reply.Number k) a apart free h = subst (CycleStays t z) (sym h.1) (count_stays (z.registers u reg) k)
+  effect_stays (call.Count reg) (reply.Number k) a apart free h = subst (CycleStays t z) (sym h.1) (stays_same t z)
+  effect_stays (call.Take to id) (reply.Block i) a apart free h = subst (CycleStays t z) (sym h.1) (plain _ refl refl)
+  effect_stays (call.SetAssoc object key value) (reply.Block b) a apart free h = subst (CycleStays t z) (sym h.1) (assoc_stays (z.registers u object) (z.registers u value) key.0)
+  effect_stays (call.GetAssoc to object key) (reply.Block b) a apart free h = subst (CycleStays t z) (sym h.1) (plain _ refl refl)
+  effect_stays (call.SetWeak loc from) (reply.Block v) a apart free h = subst (CycleStays t z) (sym h.1) (weak_stays (weak_loc z u loc) v)
+  effect_stays (call.ReadWeak to loc) (reply.Block b) a apart free h = subst (CycleStays t z) (sym h.1) (plain _ refl refl)
+  effect_stays call.Stats (reply.Stats k) a apart free h = subst (CycleStays t z) (sym h.1) (stays_same t z)
+  effect_stays (call.Begin mode) reply.Begun a (inl n) free h = cc (n)
+  effect_stays (call.Begin mode) reply.Begun a (inr other) free h = record {
     still = λ c has. let no : None ≡ Some c = sym h.0 ∙ has.0 in cc (no);
     before = λ d has. absurd (one_owner a u t _ d other (ap (λ (y : State). y.cycle) h.1, refl) has);
   }
-  effect_stays call.Condemn (reply.Condemned r) a free h = neither a h.0 h.1 (λ d has. one_owner a u t _ d other (ap (λ (y : State). y.cycle) h.4, h.1.1) has)
-  effect_stays call.Finalise (reply.Finalised b) a free h = neither a h.1.0 h.1.1 (λ d has. one_owner a u t h.1.0 d other (ap (λ (y : State). y.cycle) h.3 ∙ actions_cycle b (actions_of z b) z ∙ h.1.1.0, h.1.1.1) has)
-  effect_stays call.Reclaim (reply.Settled gone kept) a free h = neither a h.condemned.0 h.condemned.1 (λ d has. let no : None ≡ Some d = sym (ap (λ (y : State). y.cycle) h.does) ∙ has.0 in cc (no))
-  effect_stays call.Leave (reply.Reclaimed gone) a free h = subst (CycleStays t z) (sym h.does) (gone_stays _ gone.list refl refl (λ q taken. (h.gone_ones.1 q).0 taken))
-  effect_stays _ _ a free h = absurd h
+  effect_stays call.Condemn (reply.Condemned r) a (inl n) free h = cc (n)
+  effect_stays call.Condemn (reply.Condemned r) a (inr other) free h = neither other a h.0 h.1 (λ d has. one_owner a u t _ d other (ap (λ (y : State). y.cycle) h.4, h.1.1) has)
+  effect_stays call.Finalise (reply.Finalised b) a (inl n) free h = cc (n)
+  effect_stays call.Finalise (reply.Finalised b) a (inr other) free h = neither other a h.1.0 h.1.1 (λ d has. one_owner a u t h.1.0 d other (ap (λ (y : State). y.cycle) h.3 ∙ actions_cycle b (actions_of z b) z ∙ h.1.1.0, h.1.1.1) has)
+  effect_stays call.Reclaim (reply.Settled gone kept) a (inl n) free h = cc (n)
+  effect_stays call.Reclaim (reply.Settled gone kept) a (inr other) free h = neither other a h.condemned.0 h.condemned.1 (λ d has. let no : None ≡ Some d = sym (ap (λ (y : State). y.cycle) h.does) ∙ has.0 in cc (no))
+  effect_stays call.Leave (reply.Reclaimed gone) a apart free h = subst (CycleStays t z) (sym h.does) (gone_stays _ gone.list refl refl (λ q taken. (h.gone_ones.1 q).0 taken))
+  effect_stays _ _ a apart free h = absurd h
 
 -- a cycle that sees a state
-seen_stays : (t : ℕ) (z : State) → CycleStays t z (seen_now z)
+pub seen_stays : (t : ℕ) (z : State) → CycleStays t z (seen_now z)
 seen_stays t z = go z.cycle refl
   where
     alike : (c : Cycle) → SameCycle z (seen_now z) c (with_moment (moment z) c)
@@ -194,17 +202,18 @@ escape_stays t z s need = kept t z (with_escaped z need) s refl (λ b out. ap wa
     by true (Some b) = refl
     by false (Some b) = refl
 
-happens_stays : (z : State) (u t : ℕ) (c : Call) (r : Reply) (a : State) → Intact z → (u == t) ≡ false → get z.blocks (id_of u (z.serials u)) ≡ None → Happens z u c r a → CycleStays t z a
-happens_stays z u t c reply.Busy a s other free h = subst (CycleStays t z) (sym h.1) (stays_same t z)
-happens_stays z u t c r a s other free h = subst (CycleStays t z) (sym h.2) (stays_on t z h.0 (seen_now h.0) (effect_stays z s u t other c r h.0 free h.1) (seen_stays t h.0))
+happens_stays : (z : State) (u t : ℕ) (c : Call) (r : Reply) (a : State) → Intact z → IsApart u t c → get z.blocks (id_of u (z.serials u)) ≡ None → Happens z u c r a → CycleStays t z a
+happens_stays z u t c reply.Busy a s apart free h = subst (CycleStays t z) (sym h.1) (stays_same t z)
+happens_stays z u t c r a s apart free h = subst (CycleStays t z) (sym h.2) (stays_on t z h.0 (seen_now h.0) (effect_stays z s u t c r h.0 apart free h.1) (seen_stays t h.0))
 
-pub step_stays : (z : State) (e : Entry) (a : State) (t : ℕ) → Intact z → AllMade z → Step z e a → (e.thread == t) ≡ false → CycleStays t z a
-step_stays z e a t s made k other = by_misuse (misuse_of z e.thread e.call k.need) refl k.does
+-- what others do, and calls that are no step of a cycle, leave a thread's cycle
+pub step_stays : (z : State) (e : Entry) (a : State) (t : ℕ) → Intact z → AllMade z → Step z e a → IsApart e.thread t e.call → CycleStays t z a
+step_stays z e a t s made k apart = by_misuse (misuse_of z e.thread e.call k.need) refl k.does
   where
     by_misuse : (m : Option Misuse) → misuse_of z e.thread e.call k.need ≡ m → MatchOption m (Happens (with_escaped z k.need) e.thread e.call e.reply a) (λ m. (e.reply ≡ reply.Misuse m) × (a ≡ z)) → CycleStays t z a
     by_misuse None right h =
         stays_on t z (with_escaped z k.need) a (escape_stays t z s k.need)
-        (happens_stays (with_escaped z k.need) e.thread t e.call e.reply a (escape_intact z s e.thread e.call k.need k.needed right) other (escaped_made z k.need e.thread (next_free z made e.thread)) h)
+        (happens_stays (with_escaped z k.need) e.thread t e.call e.reply a (escape_intact z s e.thread e.call k.need k.needed right) apart (escaped_made z k.need e.thread (next_free z made e.thread)) h)
     by_misuse (Some m) right h = subst (CycleStays t z) (sym h.1) (stays_same t z)
 
 or_first : (a b : Bool) → (a || b) ≡ false → a ≡ false
@@ -218,7 +227,7 @@ or_second false b h = h
 pub run_stays : (z : State) (es : List Entry) (a : State) (t : ℕ) → Intact z → AllMade z → Run z es a → NoneOf t es → CycleStays t z a
 run_stays z [] a t s made run none = subst (CycleStays t z) (sym run) (stays_same t z)
 run_stays z (e ∷ es) a t s made run none =
-    stays_on t z run.0 a (step_stays z e run.0 t s made run.1 (or_first (e.thread == t) (list_any (λ e. e.thread == t) es) none))
+    stays_on t z run.0 a (step_stays z e run.0 t s made run.1 (inr (or_first (e.thread == t) (list_any (λ e. e.thread == t) es) none)))
     (run_stays run.0 es a t (step_intact z e run.0 s made run.1) (step_made z e run.0 run.1 made) run.2 (or_second (e.thread == t) (list_any (λ e. e.thread == t) es) none))
 
 -- the law Cycle

@@ -1,23 +1,27 @@
 -- Each step keeps a state sound
-use Rattle.std.proofs.Common.{◌≡◌, ◌≤◌, ◌||◌, ℕ, true, false, Bool, Option, Some, None, List, [], ◌∷◌, refl, sym, ap, subst, ◌∙◌, ◌⊎◌, inl, inr, is_some, option_and_then, IsTrue, IsFalse}
+use Rattle.std.proofs.Common.{◌≡◌, ◌++◌, ◌≤◌, ◌||◌, ℕ, true, false, Bool, Option, Some, None, List, [], ◌∷◌, refl, sym, ap, subst, ◌∙◌, ◌⊎◌, inl, inr, is_some, option_and_then, IsTrue, IsFalse, ◌+◌}
 use Rattle.std.specs.Option.{option_map_or}
 use Rattle.std.specs.FinMap.{get}
 use Rattle.az_base.specs.declared.block_id.BlockId.{BlockId}
 use Rattle.az_base.specs.declared.options.Options.{Options}
 use Rattle.az_base.specs.Ids.{among}
 use Rattle.zone_model.specs.declared.entry.Entry.{Entry}
-use Rattle.zone_model.specs.State.{State, Block, Cycle, opening}
+use Rattle.zone_model.specs.State.{State, is_unescaped, Block, Cycle, opening}
 use Rattle.zone_model.specs.Reach.{Edge}
 use Rattle.zone_model.specs.Collection.{IsReached}
 use Rattle.zone_model.specs.Step.{Step}
+use Rattle.zone_model.specs.Escape.{Tells, EscFrom, with_escaped}
+use Rattle.zone_model.specs.Quanta.{used_quanta, quanta_needed}
 use Rattle.zone_model.specs.History.{Run, Ends}
 use Rattle.zone_model.specs.Sound.{Sound, is_started}
 use Rattle.zone_model.specs.Reached.{OpenReached}
-use Rattle.zone_model.proofs.Made.{AllMade, is_of, step_made, opening_made}
+use Rattle.zone_model.proofs.Made.{AllMade, is_of, step_made, opening_made, escaped_known}
 use Rattle.zone_model.proofs.Intact.{Intact}
 use Rattle.zone_model.proofs.IntactSteps.{step_intact, opening_intact}
-use Rattle.zone_model.proofs.BlocksFit.{AllFit, step_fits, opening_fits}
-use Rattle.zone_model.proofs.Reaching.{step_reached}
+use Rattle.zone_model.proofs.BlocksFit.{AllFit, step_fits, opening_fits, escape_fits}
+use Rattle.zone_model.proofs.Reaching.{step_reached, escape_reached}
+use Rattle.zone_model.proofs.IntactEscapes.{closed_intact}
+use Rattle.zone_model.proofs.Paths.{path_more}
 
 -- a sound state, taken apart as the steps keep it
 pub sound_intact : (z : State) → Sound z → Intact z
@@ -78,6 +82,18 @@ step_sound z e after s k =
     let i = sound_intact z s in
     let m = sound_made z s in
     sound_of after (step_intact z e after i m k) (step_fits z e after i (sound_fits z s) k) (step_made z e after k m) (step_reached z e after i s.reached k)
+
+-- all unescaped blocks to which given blocks lead escape, where they fit
+pub escape_sound : (z : State) (first : List BlockId) (need : BlockId → Bool) → Sound z → Tells need (EscFrom z first) → used_quanta z + quanta_needed z need ≤ z.options.heap_quanta → Sound (with_escaped z need)
+escape_sound z first need s tells fits =
+    sound_of (with_escaped z need)
+    (closed_intact z (sound_intact z s) need (λ q h. ((tells q).0 h).2.0) (λ a b h e un. (tells b).1 (more a b ((tells a).0 h) e un)) fits)
+    (escape_fits z (sound_fits z s) need)
+    (λ b known. sound_made z s b (escaped_known z need b known))
+    (escape_reached z need s.reached)
+  where
+    more : (a b : BlockId) → EscFrom z first a → Edge z a b → IsTrue (is_unescaped z b) → EscFrom z first b
+    more a b led e un = (led.0, led.1, (un, (led.2.1.0 ++ b ∷ [], path_more (Edge z) led.0 led.2.1.0 a b led.2.1.1 e)))
 
 pub opening_sound : (o : Options) → Sound (opening o)
 opening_sound o = sound_of (opening o) (opening_intact o) (opening_fits o) (opening_made o) (λ c is uncondemned. let no : None ≡ Some c = is in cc (no))

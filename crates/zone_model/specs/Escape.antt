@@ -1,9 +1,9 @@
 -- What escapes at a call
 -- A block is first known to its thread alone. Where a reference to it becomes visible to others it escapes, and with it
 -- all that it leads to: so no escaped block refers to one that has not escaped.
-use Rattle.std.specs.Prelude.{ℕ, Bool, Option, Some, None, if◌then◌else◌, IsTrue, ◌↔◌, ◌⊎◌}
+use Rattle.std.specs.Prelude.{ℕ, Bool, List, Option, Some, None, if◌then◌else◌, IsTrue, ◌↔◌, ◌⊎◌}
 use Rattle.az_base.specs.declared.block_id.BlockId.{BlockId}
-use Rattle.az_base.specs.Ids.{id_cmp}
+use Rattle.az_base.specs.Ids.{id_cmp, among}
 use Rattle.zone_model.specs.declared.call.Call.{Call}
 use Rattle.zone_model.specs.declared.call.Call.TheVariants as call
 use Rattle.zone_model.specs.declared.call.Loc.{Loc}
@@ -15,6 +15,10 @@ use Rattle.zone_model.specs.Reach.{Edge, Leads}
 -- the unescaped blocks at the end of a list of edges that begins at b, b itself included where it is unescaped
 abbrev pub Esc : State → BlockId → BlockId → Type 0
 Esc z b c = IsTrue (is_unescaped z c) × Leads (Edge z) b c
+
+-- those of all blocks of a list
+abbrev pub EscFrom : State → List BlockId → BlockId → Type 0
+EscFrom z first c = (b : BlockId) × IsTrue (among first b) × Esc z b c
 
 -- those of the block, if there is one
 abbrev pub EscOf : State → Option BlockId → BlockId → Type 0

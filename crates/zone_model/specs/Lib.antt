@@ -16,7 +16,8 @@ pub mod SameShared
 pub mod Waits
 pub mod Reached
 pub mod Sound
-pub mod Laws
+pub mod Phases
 pub mod WeakShows
 pub mod Bare
+pub mod Replies
 pub mod Worked

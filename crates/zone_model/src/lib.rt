@@ -22,11 +22,16 @@ pub use act::Act;
 pub use call::{Call, Loc};
 pub use entry::{Entry, Reply, Stats};
 pub use laws::{
-    cycles_stay_while_others_step, edges_stay_among_the_reached, first_history_is_legal,
-    first_history_must_reclaim, histories_end_once, local_calls_leave_what_is_shared,
-    local_calls_need_their_part_alone, parts_are_told_by_entries, states_are_sound,
-    steps_are_determined, waiting_entries_are_steps, waiting_entries_of_all_threads_are_steps,
-    weak_locations_show_what_was_assigned, weak_locations_stay_without_collections,
+    a_condemn_at_once_is_exact, blocks_reclaimed_by_their_thread_are_not_live,
+    calls_have_one_reply, changes_that_add_edges_to_anchored_blocks,
+    condemned_blocks_are_not_anchored, cycles_stay_while_others_step, edges_stay_among_the_reached,
+    first_history_is_legal, first_history_must_reclaim, groups_have_one_outcome,
+    histories_end_once, local_calls_have_one_reply, local_calls_leave_what_is_shared,
+    local_calls_need_their_part_alone, parts_are_told_by_entries, phases_stay_with_their_cycle,
+    reached_blocks_go_on, reclaimed_blocks_are_not_anchored, soundness_is_kept, states_are_sound,
+    steps_are_determined, steps_lead_from_phase_to_phase, waiting_entries_are_steps,
+    waiting_entries_of_all_threads_are_steps, weak_locations_show_what_was_assigned,
+    weak_locations_stay_without_collections, weak_reads_reply_what_was_assigned,
     weak_root_shows_the_last_assignment,
 };
 pub use lists::{ActionList, IdList};

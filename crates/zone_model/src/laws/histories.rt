@@ -1,5 +1,5 @@
 //! Legal histories: each entry has one next state, and two histories worked by hand.
-ghost use Rattle.std.specs.Prelude.{◌≡◌, List, [], ◌∷◌};
+ghost use Rattle.std.specs.Prelude.{◌≡◌, ◌∷◌, List, []};
 ghost use Rattle.az_base.specs.declared.options.Options.{Options};
 ghost use Rattle.az_base.specs.OptionRanges.{usual_options};
 ghost use Rattle.zone_model.specs.declared.entry.Entry.{Entry};
