@@ -1,8 +1,6 @@
 -- What an escape leaves of the agreement between the table of holds and the state
-use Rattle.std.proofs.Common.{◌≡◌, ◌+◌, ◌==◌, ◌&&◌, ◌||◌, ◌⊎◌, ℕ, zero, suc, Bool, true, false, cond, not, List, [], ◌∷◌, ◌++◌, Option, Some, None, IsTrue, IsFalse, is_some, refl, sym, ap, subst, ◌∙◌, arith, inl, inr, eq-eqb, eqb-true, count_by}
-use Rattle.std.proofs.lemmas.Bool.Decides.{nat_tests}
-use Rattle.std.specs.List.{list_any}
-use Rattle.std.specs.Option.{option_map, option_and_then}
+use Rattle.std.proofs.Common.{◌≡◌, ◌+◌, ◌==◌, ℕ, Bool, true, false, cond, not, List, [], Option, Some, None, IsTrue, refl, sym, ap, ◌∙◌, arith}
+use Rattle.std.specs.Option.{option_map}
 use Rattle.std.specs.declared.cmp.Ordering.{Ordering}
 use Rattle.std.specs.declared.cmp.Ordering.TheVariants.{Less, Equal, Greater}
 use Rattle.std.specs.Ordering.{is_eq}
@@ -10,7 +8,6 @@ use Rattle.std.specs.Cmp.{tied_itself}
 use Rattle.std.specs.FinMap.{FinMap, get, insert, get-insert, retain_keys, same_map}
 use Rattle.az_base.specs.declared.block_id.BlockId.{BlockId}
 use Rattle.az_base.specs.declared.word.Word.{Word}
-use Rattle.az_base.specs.declared.word.Word.TheVariants as word
 use Rattle.az_base.specs.Ids.{id_cmp, same_id, ids_total, exact_ids}
 use Rattle.block_layouts.specs.declared.layout.Layout.{Layout}
 use Rattle.zone_model.specs.Escape.{with_escaped}
@@ -22,7 +19,7 @@ use Rattle.zone_model.proofs.PartChanges.{shown_in, part_get, escaped_part}
 use Rattle.zone_model.proofs.Totals.{total_added}
 use Rattle.shared_heap.specs.Shared.{Shared, held}
 use Rattle.shared_heap.specs.Steps.{IsUnescaped}
-use Rattle.shared_heap.specs.Holding.{times_in, registers_with, holds_of, HoldsAgree, HoldsAdmitted, HoldsAsBefore}
+use Rattle.shared_heap.specs.Holding.{times_in, holds_of, HoldsAgree, HoldsAdmitted, HoldsAsBefore}
 use Rattle.shared_heap.proofs.Tables.{turned}
 
 -- ids that the test calls the same are the same
@@ -67,7 +64,7 @@ module _ (z : State) (id : BlockId) (layout : Layout) (words : List Word) (is : 
   pub holds_split : (u : ℕ) (q : BlockId) → holds_of (part_of z u) q ≡ holds_of (part_of (with_escaped z (same_id id)) u) q + cond (id.thread == u) (times_in q words) 0
   holds_split u q =
       let after : total (λ k b. times_in q b.words) (part_of (with_escaped z (same_id id)) u).blocks ≡ total (λ k b. times_in q b.words) (retain_keys (part_of z u).blocks (λ k. not (same_id id k))) =
-          ap (λ (p : Part). total (λ k b. times_in q b.words) p.blocks) (escaped_part z (same_id id) u) in
+      ap (λ (p : Part). total (λ k b. times_in q b.words) p.blocks) (escaped_part z (same_id id) u) in
       let before = sums (id.thread == u) (part_get z u id ∙ ap (shown_in (id.thread == u)) is) in
       rw (before, after) (omega arith)
     where

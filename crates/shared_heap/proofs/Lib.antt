@@ -18,3 +18,4 @@ pub mod Alike
 pub mod Shut
 pub mod Admitting
 pub mod Unheld
+pub mod Leaving

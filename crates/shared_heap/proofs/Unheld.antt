@@ -1,5 +1,5 @@
 -- What no part holds, and what is left of the agreement where a block is born, where several escape, and where no part changes
-use Rattle.std.proofs.Common.{◌≡◌, ◌<◌, ◌+◌, ◌==◌, ◌&&◌, ◌||◌, ◌⊎◌, ℕ, zero, suc, Bool, true, false, cond, not, List, [], ◌∷◌, ◌++◌, MatchOption, Option, Some, None, IsSome, IsTrue, IsFalse, is_some, refl, sym, ap, subst, ◌∙◌, arith, inl, inr, slice_get, eq-eqb, eqb-true}
+use Rattle.std.proofs.Common.{◌≡◌, ◌<◌, ◌+◌, ◌==◌, ◌&&◌, ◌||◌, ◌⊎◌, ℕ, zero, suc, Bool, true, false, cond, List, [], ◌∷◌, ◌++◌, MatchOption, Option, Some, None, IsSome, IsTrue, refl, sym, ap, subst, ◌∙◌, arith, inl, inr, slice_get, eq-eqb, eqb-true}
 use Rattle.std.proofs.lemmas.List.Sums.{sum_by-cons}
 use Rattle.std.specs.List.{count_by, list_any}
 use Rattle.std.specs.Option.{option_map, option_map_or, option_and_then}
@@ -11,33 +11,28 @@ use Rattle.az_base.specs.declared.word.Word.{Word}
 use Rattle.az_base.specs.declared.word.Word.TheVariants as word
 use Rattle.az_base.specs.Ids.{id_cmp, id_of, same_id, ids_total, exact_ids}
 use Rattle.block_layouts.specs.declared.layout.Layout.{Layout}
-use Rattle.zone_model.specs.declared.call.Call.{Call}
 use Rattle.zone_model.specs.declared.call.Call.TheVariants as call
 use Rattle.zone_model.specs.declared.entry.Reply.{Reply}
 use Rattle.zone_model.specs.declared.entry.Reply.TheVariants as reply
-use Rattle.zone_model.specs.Effect.{Effect, with_new, new_block, weak_loc}
-use Rattle.zone_model.specs.Escape.{Need, Esc, EscOf, with_escaped, block_named}
+use Rattle.zone_model.specs.Effect.{with_new, new_block}
+use Rattle.zone_model.specs.Escape.{with_escaped}
 use Rattle.zone_model.specs.Maps.{total}
 use Rattle.zone_model.specs.Misuses.{misuse_of}
 use Rattle.zone_model.specs.Part.{Part, part_of}
 use Rattle.zone_model.specs.Quanta.{is_born_escaped}
-use Rattle.zone_model.specs.Reach.{Edge, WordEdge, Path}
 use Rattle.zone_model.specs.SameShared.{HoldsRef}
-use Rattle.zone_model.specs.Sound.{Sound, Knows}
-use Rattle.zone_model.specs.State.{State, Block, is_escaped, is_unescaped, is_own, with_word, with_count, with_assoc, with_weak, with_edit}
+use Rattle.zone_model.specs.Sound.{Knows}
+use Rattle.zone_model.specs.State.{State, Block, is_escaped, is_unescaped}
 use Rattle.zone_model.specs.Step.{Step, Happens, seen_now}
-use Rattle.zone_model.proofs.Blocks.{is_out, is_inside, not_both, there_out, there_inside, own_inside, own_thread, edit_standing, got_escaped, found_escaped, escape_at}
-use Rattle.zone_model.proofs.PartChanges.{shown_in, part_get, edited_others, new_others, new_part, born_in_part}
+use Rattle.zone_model.proofs.Blocks.{is_out, is_inside, not_both, there_out, there_inside, own_inside, own_thread, got_escaped, found_escaped, escape_at}
+use Rattle.zone_model.proofs.PartChanges.{shown_in, part_get, new_others, new_part, born_in_part}
 use Rattle.zone_model.proofs.Sums.{total_split}
-
 use Rattle.shared_heap.specs.Shared.{Shared, held}
-use Rattle.shared_heap.specs.Stands.{Stands}
 use Rattle.shared_heap.specs.Steps.{IsUnescaped, names}
-use Rattle.shared_heap.specs.Holding.{refers_to, is_block, times_in, registers_with, holds_of, is_off, HoldsAgree, HoldsAgreeBut, HoldsAdmitted, HoldsBorn, HoldsItsOwn, HoldsOnceMore, IsShared, LeavesParts, pairs_in, replaced}
+use Rattle.shared_heap.specs.Holding.{refers_to, is_block, times_in, registers_with, holds_of, is_off, HoldsAgree, HoldsAgreeBut, HoldsAdmitted, HoldsBorn, HoldsItsOwn, HoldsOnceMore, pairs_in, replaced}
 use Rattle.shared_heap.proofs.Admitting.{same_ids, holds_split, still_out}
 use Rattle.shared_heap.proofs.Agreeing.{outcome, register_moved, moved_sums}
 use Rattle.shared_heap.proofs.Picks.{total-zero}
-use Rattle.shared_heap.proofs.Shut.{shut}
 
 no_test : (b : Bool) → (b ≡ true → ⊥) → b ≡ false
 no_test true h = absurd (h refl)

@@ -1,10 +1,9 @@
 //! Theorems over heaps and the states for which they stand. Each is the contract of a function that does nothing.
 ghost use Rattle.std.specs.Prelude.{◌≡◌, ◌<◌, ℕ, true, [], ◌∷◌, ◌++◌, List, None, Option};
-ghost use Rattle.std.specs.FinMap.{get};
 ghost use Rattle.az_base.specs.declared.action.Action.{Action};
 ghost use Rattle.az_base.specs.declared.block_id.BlockId.{BlockId};
 ghost use Rattle.az_base.specs.declared.word.Word.{Word};
-ghost use Rattle.az_base.specs.Ids.{same_id, id_of};
+ghost use Rattle.az_base.specs.Ids.{same_id};
 ghost use Rattle.block_layouts.specs.declared.layout.Layout.{Layout};
 ghost use Rattle.zone_model.specs.declared.call.Call.{Call};
 ghost use Rattle.zone_model.specs.declared.call.Call.TheVariants as call;
@@ -16,7 +15,7 @@ ghost use Rattle.zone_model.specs.SameShared.{SameShared};
 ghost use Rattle.zone_model.specs.Sound.{Sound};
 ghost use Rattle.zone_model.specs.State.{State};
 ghost use Rattle.zone_model.specs.Step.{Step};
-ghost use Rattle.shared_heap.specs.Holding.{holds_of, pair_of, pairs_in, replaced, HoldsAgree, HoldsAgreeBut, HoldsMore, HoldsBorn, HoldsSet, HoldsAdmitted, HoldsItsOwn, HoldsOnceMore, HoldsAsBefore, ReadsTo};
+ghost use Rattle.shared_heap.specs.Holding.{holds_of, pair_of, pairs_in, replaced, HoldsAgree, HoldsAgreeBut, HoldsMore, HoldsBorn, HoldsSet, HoldsAdmitted, HoldsItsOwn, HoldsOnceMore, HoldsAsBefore, LeavesParts, ReadsTo};
 ghost use Rattle.shared_heap.specs.Shared.{Shared};
 ghost use Rattle.shared_heap.specs.Stands.{Stands};
 ghost use Rattle.shared_heap.specs.Steps.{IsUnescaped};
@@ -42,9 +41,8 @@ pub fn what_is_said_agrees()
 /// A birth counts the block that the register held before once more, for the thread, and all else agrees: nobody else
 /// can hold the new block yet.
 pub fn births_count_what_they_replace_once_more()
-    ensures { (h new : Shared) (z after : State) (t to : ℕ) (layout : Layout) (actions : List Action) (r : Reply) → to < 16 → HoldsItsOwn z → get z.blocks (id_of t (z.serials t)) ≡ None
-        → is_born_escaped z t layout actions ≡ true → HoldsAgree h z → HoldsBorn h new t r → Step z (record { thread = t; call = call.New to layout actions; reply = r }) after
-        → HoldsOnceMore new after t (replaced r (z.registers t to)) }
+    ensures { (h new : Shared) (z after : State) (t to : ℕ) (layout : Layout) (actions : List Action) (r : Reply) → to < 16 → Sound z → is_born_escaped z t layout actions ≡ true → HoldsAgree h z
+        → HoldsBorn h new t r → Step z (record { thread = t; call = call.New to layout actions; reply = r }) after → HoldsOnceMore new after t (replaced r (z.registers t to)) }
 {}
 
 /// A block that `admit` lets in counts as not held, and the escaped blocks in its words count as often as before, when
@@ -68,4 +66,11 @@ pub fn sound_states_hold_their_own()
 pub fn once_more_is_one_pair()
     ensures pair { (h : Shared) (z : State) (t : ℕ) (before : Option BlockId) → HoldsOnceMore h z t before → HoldsAgreeBut (pair_of t before) h z }
     ensures none { (h : Shared) (z : State) → HoldsAgreeBut [] h z → HoldsAgree h z }
+{}
+
+/// A call that reads into no register, and that is given and writes to what has escaped alone, leaves the parts of the
+/// threads as they are: so what agreed before agrees after it, as far as the table of holds stays.
+pub fn other_calls_leave_the_holds()
+    ensures { (h new : Shared) (z after : State) (t : ℕ) (c : Call) (r : Reply) → LeavesParts z t c → Sound z → HoldsAgree h z → new.holds ≡ h.holds
+        → Step z (record { thread = t; call = c; reply = r }) after → HoldsAgree new after }
 {}

@@ -25,6 +25,6 @@ mod stored;
 pub use heap::Heap;
 pub use laws::{
     admitted_blocks_leave_the_holds_as_before, births_count_what_they_replace_once_more,
-    once_more_is_one_pair, reads_count_what_they_replace_once_more, sound_states_hold_their_own,
-    what_is_said_agrees, what_is_shared_alike_is_stood_for_alike,
+    once_more_is_one_pair, other_calls_leave_the_holds, reads_count_what_they_replace_once_more,
+    sound_states_hold_their_own, what_is_said_agrees, what_is_shared_alike_is_stood_for_alike,
 };

@@ -6,7 +6,7 @@ ghost use Rattle.az_base.specs.Ids.{same_id};
 ghost use Rattle.block_layouts.specs.Layouts.{len_of, quanta};
 ghost use Rattle.zone_model.specs.State.{State};
 ghost use Rattle.zone_model.specs.Escape.{with_escaped};
-ghost use Rattle.shared_heap.specs.Holding.{HoldsSet};
+ghost use Rattle.shared_heap.specs.Holding.{HoldsAdmitted, HoldsSet};
 ghost use Rattle.shared_heap.specs.Shared.{held, used_by, holding, admitted, IsFresh};
 ghost use Rattle.shared_heap.specs.Stands.{Stands};
 ghost use Rattle.shared_heap.specs.Steps.{IsUnescaped};
@@ -51,7 +51,7 @@ impl Heap {
         requires whole { Fits layout words.items }
         requires fits { used_by self.old.blocks + quanta (len_of layout) ≤ self.old.options.heap_quanta }
         ensures value { self.new ≡ admitted self.old id layout words.items }
-        ensures held { (u : ℕ) (q : BlockId) → held self.new u q ≡ (if same_id id q then 0 else held self.old u q) }
+        ensures held { HoldsAdmitted self.old self.new id }
         ensures fresh { IsFresh self.new id }
         ensures used { used_by self.new.blocks ≡ used_by self.old.blocks + quanta (len_of layout) }
         ensures stands { (z : State) → Stands self.old z → IsUnescaped z id layout words.items → Stands self.new (with_escaped z (same_id id)) }

@@ -9,6 +9,7 @@ ghost use Rattle.zone_model.specs.declared.entry.Reply.TheVariants as reply;
 ghost use Rattle.zone_model.specs.Quanta.{is_born_escaped};
 ghost use Rattle.zone_model.specs.State.{State};
 ghost use Rattle.shared_heap.specs.Holds.{with_times};
+ghost use Rattle.shared_heap.specs.Holding.{HoldsBorn};
 ghost use Rattle.shared_heap.specs.Shared.{held, used_by, with_birth, newly};
 ghost use Rattle.shared_heap.specs.Steps.{Runs, Stepped, next_id, after_birth, names};
 ghost use Rattle.shared_heap.specs.Words.{passes_past, passes_other, is_full, birth_misuse, PlansBirth, reply_or};
@@ -73,7 +74,7 @@ impl Heap {
         requires absent { IfSome id (λ b. get self.old.blocks b ≡ None) }
         ensures reply { IfOk result (λ r. r ≡ reply_or (birth_misuse self.old id layout.now actions.now) (reply.Block id)) }
         ensures value { IfOk result (λ r. self.new ≡ after_birth self.old t layout.now actions.now r) }
-        ensures held { IfOk result (λ r. (u : ℕ) (q : BlockId) → held self.new u q ≡ (if names r q then (if t == u then 1 else 0) else held self.old u q)) }
+        ensures held { IfOk result (λ r. HoldsBorn self.old self.new t r) }
         ensures step { IfOk result (λ r. (z : State) (to : ℕ) → Runs self.old z t → is_born_escaped z t layout.now actions.now ≡ true → id ≡ next_id z t → Stepped self.new z t (call.New to layout.now actions.now) r) }
         ensures err { OnErr result (self.new ≡ self.old) }
     {
@@ -152,6 +153,9 @@ fn born(alloc: Global, t: ThreadNo, layout: &Layout, actions: &[Action]) -> Resu
         return Err(NoMemory);
     };
     let mut stored = Stored::new(alloc, layout, words, actions);
-    stored.set_times(t, 1)?;
+    // Nobody holds it yet, and one thread takes no memory.
+    let Ok(()) = stored.set_times(t, 1) else {
+        unreachable!()
+    };
     Ok(stored)
 }
