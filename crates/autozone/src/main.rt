@@ -1,24 +1,14 @@
 //! The program `autozone`: it plays a script of calls to a garbage collected zone, and writes the history of the zone.
 //!
-//! `top` is the call that does all of it, over any source and sinks, with the contract that says what the program
-//! promises; `command` has the commands, `plain` plays, and `text` writes. `main` only makes the ends.
+//! `zone_commands` does all of it, over any source and sinks. `main` only makes the ends.
 #![tactic(auto)]
 
 use az_base::NoMemory;
 use az_outside::{StdSink, StdSource};
-use saying::say;
-use status::Status;
 use std::env;
 use std::io::ErrorKind;
 use std::process::ExitCode;
-use top::autozone;
-
-mod command;
-mod plain;
-mod saying;
-mod status;
-mod text;
-mod top;
+use zone_commands::{Status, autozone, say};
 
 /// The words after the program's name, or none where one of them isn't UTF-8, since none are no command either.
 fn words(rt: &HostRuntime) -> Result<Vec<String>, NoMemory> {
@@ -49,6 +39,3 @@ fn main(rt: HostRuntime) -> ExitCode {
     };
     ExitCode::from(status.number())
 }
-
-#[cfg(test)]
-mod tests;

@@ -1,0 +1,7 @@
+pub mod Registers
+pub mod Soundness
+pub mod StandsFor
+pub mod Births
+pub mod Words
+pub mod Escapes
+pub mod Playing

@@ -1,0 +1,105 @@
+//! The commands.
+ghost use Rattle.std.specs.Prelude.{◌≡◌, ◌≢◌, ◌⊎◌, ◌+◌, [], ℕ, List, Some, OnOk, Err, codes};
+ghost use Rattle.az_outside.specs.Causes.{Rose};
+ghost use Rattle.az_outside.specs.Bytes.{Takes};
+ghost use Rattle.heap_script.specs.declared.cause.Cause.{Cause};
+ghost use Rattle.zone_commands.specs.Answers.{Played, PlayedPart, Refuses, IfRefused, Says, told, refusal_text, answer_to};
+
+use crate::saying::{refusal, say};
+use crate::status::{Status, Stop};
+use az_outside::{Sink, Source, read_all, write_all};
+use heap_script::parse;
+use play_core::play;
+use std::alloc::Global;
+use zone_history::write_text;
+
+/// The most bytes of a script.
+pub const LIMIT: usize = 4_194_304;
+
+/// Plays the script that the source gives, and writes the text of its history by one `write_all`.
+fn play_script<S: Source, O: Sink>(alloc: Global, source: &mut S, out: &mut O) -> Result<(), Stop>
+    ensures done { OnOk result (Played LIMIT (S.left source.old) (S.left source.new) (O.grew out.old out.new)) }
+
+    ensures refused { IfRefused result (λ cause line. Refuses LIMIT (S.left source.old) (S.left source.new) cause line × O.grew out.old out.new []) }
+    ensures read { result ≡ Err Stop.ReadFault → Rose (S.faults source.old) (S.faults source.new) × O.grew out.old out.new [] }
+    ensures too_long { result ≡ Err Stop.TooLong → Takes (LIMIT + 1) (S.left source.old) (S.left source.new) × O.grew out.old out.new [] }
+    ensures write { result ≡ Err Stop.WriteFault →
+        Rose (O.faults out.old) (O.faults out.new) × PlayedPart (S.left source.old) (S.left source.new) (O.grew out.old out.new) }
+    ensures memory { result ≡ Err Stop.NoMemory → O.grew out.old out.new [] }
+{
+    let bytes = read_all(alloc, source, LIMIT)?;
+    let script = parse(alloc, &bytes)?;
+    let played = play(alloc, &script)?;
+    let text = write_text(alloc, &script.options, &played.entries, &played.stats)?;
+    match write_all(out, text.as_bytes()) {
+        Ok(()) => Ok(()),
+        Err(_) => Err(Stop::WriteFault),
+    }
+}
+
+/// The command `play`: plays the script that the source gives, and writes the text of its history.
+///
+/// The refusals are tried in this order: ReadFault and TooLong while reading, ScriptRefused, WriteFault. NoMemory may
+/// come before the first write and not after. Whatever stopped it is said on `err` in one line. O(n log n) for a
+/// script of n bytes.
+pub fn play_command<S: Source, O: Sink, E: Sink>(
+    alloc: Global,
+    source: &mut S,
+    out: &mut O,
+    err: &mut E,
+) -> Status
+    ensures done { result ≡ Status.Done →
+        Played LIMIT (S.left source.old) (S.left source.new) (O.grew out.old out.new) × E.grew err.old err.new [] }
+
+    ensures refused { result ≡ Status.ScriptRefused → (cause : Cause) × (line : ℕ) × Refuses LIMIT (S.left source.old) (S.left source.new) cause line
+        × O.grew out.old out.new [] × Says (E.faults err.old) (E.faults err.new) (E.grew err.old err.new) (refusal_text cause line) }
+
+    ensures usage { result ≢ Status.Usage }
+
+    ensures read { result ≡ Status.ReadFault → Rose (S.faults source.old) (S.faults source.new)
+        × O.grew out.old out.new [] × Says (E.faults err.old) (E.faults err.new) (E.grew err.old err.new) (told (codes "read fault")) }
+
+    ensures too_long { result ≡ Status.TooLong → Takes (LIMIT + 1) (S.left source.old) (S.left source.new)
+        × O.grew out.old out.new [] × Says (E.faults err.old) (E.faults err.new) (E.grew err.old err.new) (told (codes "too long")) }
+
+    ensures write { result ≡ Status.WriteFault → Rose (O.faults out.old) (O.faults out.new)
+        × PlayedPart (S.left source.old) (S.left source.new) (O.grew out.old out.new)
+        × Says (E.faults err.old) (E.faults err.new) (E.grew err.old err.new) (told (codes "write fault")) }
+
+    ensures memory { result ≡ Status.NoMemory → O.grew out.old out.new []
+        × Says (E.faults err.old) (E.faults err.new) (E.grew err.old err.new) (told (codes "no memory")) }
+
+    // Where nothing fails, the bytes alone determine the status, unless memory runs out.
+    ensures complete { (given : List ℕ) → S.left source.old ≡ Some given → ¬ Rose (S.faults source.old) (S.faults source.new) → ¬ Rose (O.faults out.old) (O.faults out.new)
+        → (result ≡ answer_to LIMIT given) ⊎ (result ≡ Status.NoMemory) }
+{
+    match play_script(alloc, source, out) {
+        Ok(()) => Status::Done,
+        Err(Stop::Refused { cause, line }) => match refusal(alloc, cause, line) {
+            Ok(text) => {
+                say(err, text.as_str());
+                Status::ScriptRefused
+            }
+            Err(_) => {
+                say(err, "autozone: no memory\n");
+                Status::NoMemory
+            }
+        },
+        Err(Stop::ReadFault) => {
+            say(err, "autozone: read fault\n");
+            Status::ReadFault
+        }
+        Err(Stop::WriteFault) => {
+            say(err, "autozone: write fault\n");
+            Status::WriteFault
+        }
+        Err(Stop::NoMemory) => {
+            say(err, "autozone: no memory\n");
+            Status::NoMemory
+        }
+        Err(Stop::TooLong) => {
+            say(err, "autozone: too long\n");
+            Status::TooLong
+        }
+    }
+}

@@ -1,0 +1,5 @@
+//! Tests of whole scripts: what the program writes, byte for byte.
+#![tactic(auto)]
+
+#[cfg(test)]
+mod tests;
