@@ -1,6 +1,7 @@
 -- What a heap stands for is what is shared
 use Rattle.std.proofs.Common.{◌≡◌, ℕ, cond, Option, Some, None, is_some, refl, sym, ap, ◌∙◌}
 use Rattle.std.specs.FinMap.{get}
+use Rattle.zone_model.specs.Collection.{HasCycle}
 use Rattle.zone_model.specs.State.{State, Block, Cycle}
 use Rattle.zone_model.specs.SameShared.{escaped_only, SeesMore, SameShared}
 use Rattle.shared_heap.specs.Shared.{Shared}
@@ -32,3 +33,6 @@ stands_same h z a s same = record {
   weak = same.weak ∙ s.weak;
   cycle = no_cycle z.cycle a.cycle same.cycle s.cycle;
 }
+
+pub none_open : (h : Shared) (z : State) (t : ℕ) (c : Cycle) → Stands h z → HasCycle z t c → ⊥
+none_open h z t c s has = let none : None ≡ Some c = sym s.cycle ∙ has.0 in cc (none)

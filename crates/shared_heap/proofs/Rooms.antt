@@ -1,5 +1,5 @@
 -- The room that is left
-use Rattle.std.proofs.Common.{◌≡◌, ℕ, ◌+◌, ◌≤◌, List, [], ◌∷◌, length, drop, slice_get, zero, suc, refl, ap, ◌∙◌, arith}
+use Rattle.std.proofs.Common.{◌≡◌, ℕ, ◌+◌, ◌≤◌, List, [], ◌∷◌, Some, length, drop, slice_get, zero, suc, refl, ap, ◌∙◌, arith}
 
 pub all_dropped : {X : Type 0} (xs : List X) (n : ℕ) → drop n xs ≡ [] → length xs ≤ n
 all_dropped [] n e = omega arith
@@ -11,6 +11,11 @@ zero_plus k = omega arith
 
 suc_plus : (n k : ℕ) → suc (n + k) ≡ suc n + k
 suc_plus n k = omega arith
+
+-- where there is a next one, there is one less behind it
+pub fewer : (xs : List ℕ) (n : ℕ) → slice_get xs 0 ≡ Some n → length (drop 1 xs) + 1 ≡ length xs
+fewer [] n e = cc
+fewer (x ∷ xs) n e = omega arith
 
 -- what is next
 pub get_drop : {X : Type 0} (xs : List X) (n k : ℕ) → slice_get (drop n xs) k ≡ slice_get xs (n + k)

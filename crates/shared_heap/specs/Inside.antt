@@ -12,7 +12,6 @@ pub record IsHeap (h : Inside) : Type 0 where
   -- a block takes at least one quantum
   pub few : h.number ≤ h.used
   pub roots : length h.roots.items ≡ 256
-  pub room : length h.room.items ≤ h.taken + h.blocks.spare
-  pub taken : h.taken ≤ length h.room.items
+  pub room : length h.room ≤ h.blocks.spare
   -- no count is above the option
   pub counts : (q : BlockId) → unwrap_or (get h.counts.counts q) 0 ≤ h.options.counts

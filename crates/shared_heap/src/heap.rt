@@ -20,6 +20,7 @@ mod weak;
 mod words;
 
 use crate::blocks::Blocks;
+use crate::reserved::Reserved;
 use assoc_refs::Assocs;
 use az_base::{BlockId, NoMemory, Options};
 use retain_table::Counts;
@@ -42,13 +43,10 @@ pub struct Heap {
     used: u32,
     /// How many blocks there are.
     number: u32,
-    /// The lengths of the blocks for which room was taken, and how many of them came in.
-    room: Vec<u32>,
-    taken: usize,
+    room: Reserved,
 }
 
 impl Model for Heap {
-    ghost use Rattle.std.specs.Prelude.{drop};
     ghost use Rattle.shared_heap.specs.Shared.{Shared};
     ghost use Rattle.shared_heap.specs.Codes.{coded_shared};
 
@@ -58,7 +56,7 @@ impl Model for Heap {
 
     ghost use Rattle.shared_heap.specs.Inside.{IsHeap};
 
-    ghost view = { λ h. record { options = h.options; blocks = h.blocks.blocks; holds = h.blocks.holds; roots = h.roots.items; counts = h.counts.counts; assocs = h.assocs.pairs; weak = h.weak.shown; ready = record { counts = h.counts.spare; object = h.assocs.ready; value = h.weak.ready }; room = drop h.taken h.room.items } };
+    ghost view = { λ h. record { options = h.options; blocks = h.blocks.blocks; holds = h.blocks.holds; roots = h.roots.items; counts = h.counts.counts; assocs = h.assocs.pairs; weak = h.weak.shown; ready = record { counts = h.counts.spare; object = h.assocs.ready; value = h.weak.ready }; room = h.room } };
 
     ghost invariant = { IsHeap };
 }
@@ -81,8 +79,7 @@ impl Heap {
             weak: Weak::new(alloc),
             used: 0,
             number: 0,
-            room: Vec::new(alloc),
-            taken: 0,
+            room: Reserved::none(alloc),
         })
     }
 

@@ -8,12 +8,13 @@ ghost use Rattle.block_layouts.specs.declared.layout.Layout.{Layout};
 ghost use Rattle.zone_model.specs.declared.call.Call.{Call};
 ghost use Rattle.zone_model.specs.declared.call.Call.TheVariants as call;
 ghost use Rattle.zone_model.specs.declared.entry.Reply.{Reply};
+ghost use Rattle.zone_model.specs.Collection.{HasCycle};
 ghost use Rattle.zone_model.specs.Escape.{with_escaped};
 ghost use Rattle.zone_model.specs.Part.{part_of};
 ghost use Rattle.zone_model.specs.Quanta.{is_born_escaped};
 ghost use Rattle.zone_model.specs.SameShared.{SameShared};
 ghost use Rattle.zone_model.specs.Sound.{Sound};
-ghost use Rattle.zone_model.specs.State.{State};
+ghost use Rattle.zone_model.specs.State.{State, Cycle};
 ghost use Rattle.zone_model.specs.Step.{Step};
 ghost use Rattle.shared_heap.specs.Holding.{holds_of, pair_of, pairs_in, replaced, HoldsAgree, HoldsAgreeBut, HoldsMore, HoldsBorn, HoldsSet, HoldsAdmitted, HoldsItsOwn, HoldsOnceMore, HoldsAsBefore, LeavesParts, ReadsTo};
 ghost use Rattle.shared_heap.specs.Shared.{Shared};
@@ -24,6 +25,11 @@ ghost use Rattle.shared_heap.specs.Steps.{IsUnescaped};
 /// registers and unescaped blocks leaves the heap as it is, also where an open cycle has seen it.
 pub fn what_is_shared_alike_is_stood_for_alike()
     ensures { (h : Shared) (z after : State) → Stands h z → SameShared z after → Stands h after }
+{}
+
+/// No call opens a cycle, and none is open in a state for which a heap stands: so a thread may leave.
+pub fn no_cycle_is_open()
+    ensures { (h : Shared) (z : State) (t : ℕ) (c : Cycle) → Stands h z → ¬ HasCycle z t c }
 {}
 
 /// A call that reads a block into a register counts the block that the register held before once more, for the thread,

@@ -1,30 +1,58 @@
-//! The heap of the blocks that have escaped.
+//! The heap of the blocks that have escaped: what more than one thread may see.
 //!
-//! A block that other threads may see lives here, with its words, and so do the roots, the external retain counts, the
-//! associations and the weak locations. The heap doesn't know registers or unescaped blocks; in place of them it keeps,
-//! for each block and thread, how often that thread holds the block. So what a thread does to the blocks of its own
-//! reaches the heap only as numbers.
+//! **The problem.** A block is first known to the thread that made it, and costs the others nothing. Once others may find
+//! it, it has to stand in one place for all, with whatever may keep it alive; and from there nobody can look into the
+//! registers and the unescaped blocks of a thread.
 //!
-//! A heap *stands for* a state of the definitions where its blocks, roots, options and tables are those of the state, and
-//! no cycle is open. Each call says, for every such state, that its reply is that of a step, and that the heap then
-//! stands for the state after it.
+//! **The mechanism.** The heap has the escaped blocks with their words, and what belongs to no thread: roots, external
+//! retain counts, associations and weak locations. In place of registers and unescaped blocks it keeps *holds*: for each
+//! block and thread a number, how often that thread holds the block. So what a thread does to its own reaches the heap as
+//! numbers alone, and only when the thread says them.
 //!
-//! - `Stored` is a block's record: layout, words, actions, and `Holders`, how often each thread holds it.
-//! - `Blocks` is the table of the records, with room that can be taken before it is needed.
-//! - `Heap` adds the roots, the three tables, the options and the running numbers. Blocks come in by `new_shared`, or by
-//!   `admit` after `reserve_admit`, which takes the room: so an escape that has begun is never refused. Before it begins,
-//!   `ready` takes the room that the tables need for the call itself.
+//! A heap *stands for* a state of the definitions where its blocks, roots, options and tables are those of the state. Each
+//! call says, for every such state, that its reply is that of a step, and that the heap then stands for the state after.
+//!
+//! # What happens to a block
+//!
+//! - **It escapes** by `admit`, as it is, with its words. All that escape together first have their room taken, by
+//!   `reserve_admit`; so an escape that has begun comes to its end. A block that is born escaped comes in by `new_shared`.
+//! - **It is held.** A call that reads it into a register (`load`, `get_root`, `take_held`, `get_assoc`, `read_weak`) counts
+//!   one hold more for the thread. Nothing counts a hold less but `hold_count`, by which the thread says the number: until
+//!   then, what the register held before counts once too often, and a block that has just escaped counts as not held, while
+//!   its words hold what they held when they were its thread's own. `laws` says so, and that this is all.
+//! - **It is stored** (`store`, `set_root`): the block has escaped before, so nothing else escapes by it.
+//! - **It is retained** (`retain`, `release`): a positive count keeps it alive from outside, and any thread may take it by
+//!   its id.
+//! - **It is associated** (`set_assoc`): under a key of another block, as one of that block's words would hold it.
+//! - **It is weakly shown** (`assign_weak`): that holds nothing, and who reads it holds it.
+//! - **It stays.** No call takes a block out: no cycle is opened yet.
+//!
+//! A call that must not be refused once blocks have escaped for it finds its room taken, by `ready`.
+//!
+//! # Parts
+//!
+//! - `Stored` is a block's record: layout, words, actions, and `Holders`, how often each thread holds it, of which the
+//!   first takes no memory.
+//! - `Blocks` is the table of the records, with room that can be taken before it is needed; `Reserved` says for which
+//!   lengths.
+//! - `Heap` adds the roots, the tables of counts, associations and weak locations, the options and the running numbers.
+//! - `laws` has theorems over heaps and states: what callers may rest on without knowing how a heap keeps things.
+//!
+//! That blocks are private until they escape is from Domani, Goldshtein, Kolodner, Lewis, Petrank and Sheinwald,
+//! "Thread-Local Heaps for Java" (2002); Apple's libauto has it for Objective-C, whose calls these follow.
 #![tactic(auto)]
 
 mod blocks;
 mod heap;
 mod holders;
 mod laws;
+mod reserved;
 mod stored;
 
 pub use heap::Heap;
 pub use laws::{
     admitted_blocks_leave_the_holds_as_before, births_count_what_they_replace_once_more,
-    once_more_is_one_pair, other_calls_leave_the_holds, reads_count_what_they_replace_once_more,
-    sound_states_hold_their_own, what_is_said_agrees, what_is_shared_alike_is_stood_for_alike,
+    no_cycle_is_open, once_more_is_one_pair, other_calls_leave_the_holds,
+    reads_count_what_they_replace_once_more, sound_states_hold_their_own, what_is_said_agrees,
+    what_is_shared_alike_is_stood_for_alike,
 };

@@ -13,6 +13,7 @@ ghost use Rattle.shared_heap.specs.Steps.{IsUnescaped};
 ghost use Rattle.block_layouts.specs.Fitting.{Fits};
 
 use crate::heap::Heap;
+use crate::reserved::Reserved;
 use crate::stored::Stored;
 use az_base::{BlockId, NoMemory, ThreadNo, Word};
 use block_layouts::Layout;
@@ -26,12 +27,9 @@ impl Heap {
         ensures ok { OnOk result (self.new ≡ record self.old { room = lengths.now }) }
         ensures err { OnErr result (self.new ≡ self.old) }
     {
-        let Ok(room) = Vec::from_slice(alloc, lengths) else {
-            return Err(NoMemory);
-        };
+        let room = Reserved::of(alloc, lengths)?;
         self.blocks.reserve(lengths.len())?;
         self.room = room;
-        self.taken = 0;
         Ok(())
     }
 
@@ -40,7 +38,6 @@ impl Heap {
         ensures { self.new ≡ record self.old { room = [] } }
     {
         self.room.clear();
-        self.taken = 0;
     }
 
     /// An unescaped block, without actions, escapes: it is next in the room, and nobody holds it yet. It takes no
@@ -59,7 +56,7 @@ impl Heap {
         let alloc = *words.allocator();
         self.used += layout.quanta();
         self.number += 1;
-        self.taken += 1;
+        self.room.take();
         let stored = Stored::new(alloc, layout, words, Vec::new(alloc));
         let Ok(()) = self.blocks.add(id, stored) else {
             unreachable!()

@@ -9,6 +9,5 @@ invariant_of-self c = let i = c.self.invariant in record {
   few = i.few;
   roots = i.roots;
   room = i.room;
-  taken = i.taken;
   counts = below_lowered c.lower.result c.self.inside.counts c.lower.new.self c.in-Some.id c.self.inside.options.counts c.lower.ensures.answer c.lower.ensures.counts c.lower.ensures.err i.counts;
 }

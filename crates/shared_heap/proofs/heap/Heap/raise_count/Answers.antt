@@ -9,6 +9,5 @@ invariant_of-self c = let i = c.self.invariant in record {
   few = i.few;
   roots = i.roots;
   room = i.room;
-  taken = i.taken;
   counts = below_raised c.raise.result c.self.inside.counts c.raise.new.self c.in-Some.id c.self.inside.options.counts c.raise.ensures.answer c.raise.ensures.counts c.raise.ensures.err i.counts;
 }

@@ -19,6 +19,5 @@ invariant_of-self c =
       few = i.few;
       roots = i.roots;
       room = omega (arith, i.room, c.set_word.ensures.spare);
-      taken = i.taken;
       counts = i.counts;
     }
