@@ -5,6 +5,7 @@ ghost use Rattle.zone_model.specs.History.{entries_of};
 ghost use Rattle.zone_gate.specs.Shown.{IsSeatOf, IsNoteOf, IsHeldOf, KeepsSeat, HasAllThreads, new_seat, GrewBy, cut_of};
 ghost use Rattle.zone_gate.specs.Views.{longer};
 
+use crate::bells::Bells;
 use crate::cuts::Cuts;
 use crate::gather::{copied, deal_seats, unite_all};
 use crate::held::{Held, Token, Turn};
@@ -26,6 +27,7 @@ use std::sync::Wait;
 #[derive(Drop)]
 pub struct Gate<V: Kept> {
     table: Table<Option<V>, View, Setting, GateRule, Global>,
+    bells: Bells,
 }
 
 impl<V: Kept> Model for Gate<V> {
@@ -43,8 +45,8 @@ impl<V: Kept> Gate<V> {
     /// Waits for the seat's turn, and takes the value out. Turns come in the order in which threads drew their tickets,
     /// but nothing says that one ever comes: whoever never gives the value back keeps all others waiting.
     ///
-    /// O(1) where nobody has the value: two atomic steps. Else it looks up to 100 times, some microseconds, and then
-    /// sleeps in the kernel until a turn ends. Each end of a turn wakes all that sleep, and all but one sleep again.
+    /// O(1): two atomic steps where nobody has the value. Else it sleeps in the kernel until its ticket is served; the
+    /// thread that is next spins first, some microseconds.
     pub fn hold<R: Wait>(&self, rt: &R, seat: Seat) -> Held<V>
         requires { IsSeatOf self.now seat }
         ensures of { IsHeldOf V.chosen self.now result }
@@ -61,7 +63,7 @@ impl<V: Kept> Gate<V> {
         } = seat;
         let mut token: Token<V> = badge.into_seat::<Option<V>>();
         let ticket = draw::<V>(&self.table.shared, &mut token, thread);
-        wait_turn::<V, R>(rt, &self.table.shared, &mut token, ticket);
+        wait_turn::<V, R>(rt, &self.table.shared, &self.bells, &mut token, ticket);
         let value = take_out::<V>(&self.table.shared, &mut token);
         let was = Snapshot::of(&value);
         Held {
@@ -74,7 +76,7 @@ impl<V: Kept> Gate<V> {
     }
 
     /// Puts the value back with what the thread has added to its list, and lets the next seat hold it. The seat has then
-    /// seen all of the list. O(1), and a wake-up for each thread that sleeps; it waits for nobody.
+    /// seen all of the list. O(1): one atomic step, and where others wait, the next of them is woken. It waits for nobody.
     pub fn give_back(&self, held: Held<V>) -> Seat
         requires of { IsHeldOf V.chosen self.now held }
         requires options { V.chosen held.value ≡ V.chosen held.was }
@@ -99,7 +101,14 @@ impl<V: Kept> Gate<V> {
             now: Snapshot::of(&value),
         };
         let cuts = Cuts::then(&cuts, &turn);
-        put_back::<V>(&self.table.shared, &mut token, &turn.was, value, thread);
+        put_back::<V>(
+            &self.table.shared,
+            &self.bells,
+            &mut token,
+            &turn.was,
+            value,
+            thread,
+        );
         Seat {
             badge: token.into_badge(),
             thread,
@@ -169,7 +178,7 @@ impl<V: Kept> Gate<V> {
         ensures others { All (λ e. Contains self.threads e.thread) (V.list result) }
         ensures options { V.chosen result ≡ self.options }
     {
-        let Gate { table } = self;
+        let Gate { table, bells: _ } = self;
         let Some(first) = seats.pop() else {
             unreachable!()
         };
@@ -203,6 +212,7 @@ impl<V: Kept + Drop> Gate<V> {
     {
         let options = value.options();
         let kept = copied(alloc, threads)?;
+        let bells = Bells::hang(alloc, threads.len())?;
         let Ok(seats) = Vec::with_capacity(alloc, threads.len()) else {
             return Err(NoMemory);
         };
@@ -217,7 +227,7 @@ impl<V: Kept + Drop> Gate<V> {
         match Table::new(alloc, &[0, 0], slots, &about) {
             Ok((table, token)) => {
                 let seats = deal_seats::<V>(&table.shared, token, threads, seats);
-                Ok((Gate { table }, seats))
+                Ok((Gate { table, bells }, seats))
             }
             Err(Refused { slots: _ }) => Err(NoMemory),
         }

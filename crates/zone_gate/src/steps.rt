@@ -9,6 +9,7 @@ ghost use Rattle.zone_gate.specs.Shown.{GrewBy};
 ghost use Rattle.zone_gate.specs.Steps.{waiting, Taken};
 ghost use Rattle.zone_model.specs.History.{entries_of};
 
+use crate::bells::Bells;
 use crate::held::Token;
 use crate::kept::Kept;
 use crate::rule::{Draw, GateRule, GiveBack, JoinBoth, Look, SplitFirst, SplitSeen};
@@ -28,7 +29,7 @@ const SERVING: usize = 1;
 
 const VALUE: usize = 0;
 
-// How often a seat looks before it sleeps: some microseconds.
+// How often the seat that is next looks before it sleeps: some microseconds.
 const SPINS: u32 = 100;
 
 pub(crate) fn draw<V: Kept>(table: &GateTable<V>, token: &mut Token<V>, thread: ThreadNo) -> u64
@@ -47,6 +48,7 @@ pub(crate) fn draw<V: Kept>(table: &GateTable<V>, token: &mut Token<V>, thread: 
 pub(crate) fn wait_turn<V: Kept, R: Wait>(
     rt: &R,
     table: &GateTable<V>,
+    bells: &Bells,
     token: &mut Token<V>,
     ticket: u64,
 )
@@ -58,15 +60,17 @@ pub(crate) fn wait_turn<V: Kept, R: Wait>(
 {
     let mut spins = SPINS;
     for _ in rt.forever() {
+        // Read before the look: whoever serves this ticket afterwards rings afterwards.
+        let rung = bells.rung(ticket);
         let serving = table.load::<Look>(token, SERVING);
         if serving == ticket {
             return;
         }
-        if 0 < spins {
+        if 0 < spins && serving.wrapping_add(1) == ticket {
             spins -= 1;
             spin_loop();
         } else {
-            table.park(rt, SERVING, (serving & 0xffff_ffff) as u32);
+            bells.sleep(rt, ticket, rung);
         }
     }
     unreachable!()
@@ -87,6 +91,7 @@ pub(crate) fn take_out<V: Kept>(table: &GateTable<V>, token: &mut Token<V>) -> V
 // The value goes into the slot, the slot goes home, and the next ticket is served.
 pub(crate) fn put_back<V: Kept>(
     table: &GateTable<V>,
+    bells: &Bells,
     token: &mut Token<V>,
     was: &Snapshot<V>,
     value: V,
@@ -105,9 +110,10 @@ pub(crate) fn put_back<V: Kept>(
     let left = table.exchange(token, VALUE, Some(value));
     let None = left else { unreachable!() };
     let served = table.fetch_add::<GiveBack>(token, SERVING, 1);
-    // A thread that draws after this look finds the new `serving` before it sleeps.
-    if table.peek(TICKET) != served.wrapping_add(1) {
-        table.wake_all(SERVING);
+    let next = served.wrapping_add(1);
+    // Who draws the next ticket only after this finds it served, and doesn't sleep.
+    if table.peek(TICKET) != next {
+        bells.ring(next);
     }
 }
 
