@@ -1,5 +1,5 @@
 -- What the fields of a heap keep
-use Rattle.std.specs.Prelude.{◌≡◌, ◌≤◌, ◌+◌, length, unwrap_or}
+use Rattle.std.specs.Prelude.{◌≡◌, ◌≤◌, length, unwrap_or}
 use Rattle.std.specs.FinMap.{get}
 use Rattle.az_base.specs.declared.block_id.BlockId.{BlockId}
 use Rattle.shared_heap.specs.Shared.{used_by, number_of}

@@ -1,10 +1,9 @@
-use Rattle.std.proofs.Common.{◌≡◌, ◌+◌, ◌≤◌, ◌∙◌, ap, arith, drop, [], None}
+use Rattle.std.proofs.Common.{◌≡◌, ◌+◌, ◌≤◌, ◌∙◌, ap, arith, [], None}
 use Rattle.std.specs.FinMap.{get}
 use Rattle.block_layouts.specs.Layouts.{quanta, len_of}
 use Rattle.shared_heap.specs.Stored.{Kept}
 use Rattle.shared_heap.specs.Shared.{used_by, number_of}
 use Rattle.shared_heap.proofs.Sums.{used_more, number_more}
-use Rattle.shared_heap.proofs.Rooms.{all_dropped}
 use Rattle.shared_heap.proofs.heap.Heap.add_born.Goals as goal
 
 pub invariant_of-self-2 : goal.invariant_of-self-2

@@ -1,5 +1,4 @@
-use Rattle.std.proofs.Common.{◌≡◌, ◌+◌, ◌≤◌, ◌<◌, ◌∙◌, refl, sym, ap, arith, length, slice_get, Some, None}
-use Rattle.std.proofs.lemmas.Option.{slice_get_within}
+use Rattle.std.proofs.Common.{◌≡◌, ◌+◌, ◌≤◌, ◌∙◌, refl, ap, arith, slice_get, Some, None}
 use Rattle.std.specs.FinMap.{get}
 use Rattle.block_layouts.specs.Layouts.{quanta, len_of}
 use Rattle.shared_heap.specs.Stored.{Kept}
