@@ -9,7 +9,8 @@ use Rattle.std.specs.FinMap.{FinMap, get, insert, get-insert, IsAntisymmetric}
 use Rattle.az_base.specs.declared.word.Word.{Word}
 use Rattle.block_layouts.specs.declared.layout.Layout.{Layout}
 use Rattle.block_layouts.specs.Fitting.{FitsAt, Fits}
-use Rattle.zone_model.specs.Maps.{total, total-insert, at_value}
+use Rattle.zone_model.specs.Maps.{total}
+use Rattle.zone_model.proofs.MapLaws.{total-insert, at_value}
 use Rattle.zone_model.specs.State.{with_edit}
 
 -- a map after an edit

@@ -9,7 +9,8 @@ use Rattle.std.specs.Ordering.{is_eq}
 use Rattle.az_base.specs.declared.block_id.BlockId.{BlockId}
 use Rattle.az_base.specs.Ids.{id_cmp, among, same_id, ids_total, exact_ids}
 use Rattle.block_layouts.specs.Layouts.{len_of, quanta}
-use Rattle.zone_model.specs.Maps.{get-map_values, total, list_total, total-insert, at_value}
+use Rattle.zone_model.specs.Maps.{total, list_total}
+use Rattle.zone_model.proofs.MapLaws.{get-map_values, total-insert, at_value}
 use Rattle.zone_model.specs.State.{State, Block}
 use Rattle.zone_model.specs.Escape.{with_escaped}
 use Rattle.zone_model.specs.Quanta.{own_quanta, quanta_needed}

@@ -7,7 +7,8 @@ use Rattle.std.specs.Ordering.{is_lt, is_eq}
 use Rattle.std.specs.Cmp.{IsTotalOrder}
 use Rattle.std.specs.FinMap.{FinMap, IsAntisymmetric, entries, entries_sorted, from_sorted, entries-from_sorted, get, get-entries, get-from_sorted, same_map}
 use Rattle.std.specs.FinMap.Entries.{below_all, find, is_sorted}
-use Rattle.zone_model.specs.Maps.{total, list_total, at_value}
+use Rattle.zone_model.specs.Maps.{total, list_total}
+use Rattle.zone_model.proofs.MapLaws.{at_value}
 
 first : (a b : Bool) → T (a && b) → T a
 first true b p = tt

@@ -13,7 +13,7 @@ use Rattle.az_base.specs.declared.word.Word.{Word}
 use Rattle.az_base.specs.Ids.{id_cmp, same_id, id_of, ids_total, exact_ids}
 use Rattle.block_layouts.specs.declared.layout.Layout.{Layout}
 use Rattle.block_layouts.specs.Layouts.{first_words}
-use Rattle.zone_model.specs.Maps.{get-map_values}
+use Rattle.zone_model.proofs.MapLaws.{get-map_values}
 use Rattle.zone_model.specs.State.{State, Block, moment, with_edit, with_root, with_word, with_register, opening}
 use Rattle.zone_model.specs.Escape.{with_escaped}
 use Rattle.zone_model.specs.Effect.{new_block, with_new}

@@ -7,7 +7,8 @@ use Rattle.az_base.specs.declared.block_id.BlockId.{BlockId}
 use Rattle.az_base.specs.declared.options.Options.{Options}
 use Rattle.az_base.specs.Ids.{id_cmp, ids_total, exact_ids}
 use Rattle.block_layouts.specs.Layouts.{quanta, len_of}
-use Rattle.zone_model.specs.Maps.{total, total-insert, at_value}
+use Rattle.zone_model.specs.Maps.{total}
+use Rattle.zone_model.proofs.MapLaws.{total-insert, at_value}
 use Rattle.zone_model.specs.State.{State, Block, with_edit}
 use Rattle.zone_model.specs.Quanta.{used_quanta, quanta_needed}
 use Rattle.zone_model.specs.Stats.{stats_of}

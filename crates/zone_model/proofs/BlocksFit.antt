@@ -1,21 +1,21 @@
 -- What holds of each block by itself: it escaped no later than now, and while it is unescaped it has no actions and isn't finalised
-use Rattle.std.proofs.Common.{◌≡◌, ◌≤◌, ◌+◌, ℕ, Bool, true, false, cond, not, ◌||◌, List, [], ◌∷◌, Option, Some, None, MatchOption, fold, option_map, option_and_then, refl, sym, ap, subst, ◌∙◌, is_some, arith, IsTrue}
+use Rattle.std.proofs.Common.{◌≡◌, ◌≤◌, ◌+◌, ℕ, Bool, true, false, cond, not, ◌||◌, List, [], ◌∷◌, Option, Some, None, MatchOption, fold, option_and_then, refl, sym, ap, subst, ◌∙◌, is_some, arith, IsTrue}
 use Rattle.std.specs.Option.{option_map_or}
-use Rattle.std.specs.FinMap.{FinMap, get, get-empty, get-insert}
+use Rattle.std.specs.FinMap.{FinMap, get, get-empty}
 use Rattle.az_base.specs.declared.action.Action.{Action}
 use Rattle.az_base.specs.declared.action.Action.TheVariants as action
 use Rattle.az_base.specs.declared.block_id.BlockId.{BlockId}
 use Rattle.az_base.specs.declared.options.Options.{Options}
 use Rattle.az_base.specs.declared.misuse.Misuse.{Misuse}
 use Rattle.az_base.specs.declared.word.Word.{Word}
-use Rattle.az_base.specs.Ids.{id_cmp, id_of, same_id, among, ids_total}
+use Rattle.az_base.specs.Ids.{id_cmp, id_of}
 use Rattle.block_layouts.specs.declared.layout.Layout.{Layout}
 use Rattle.zone_model.specs.declared.call.Call.{Call}
 use Rattle.zone_model.specs.declared.call.Call.TheVariants as call
 use Rattle.zone_model.specs.declared.entry.Entry.{Entry}
 use Rattle.zone_model.specs.declared.entry.Reply.{Reply}
 use Rattle.zone_model.specs.declared.entry.Reply.TheVariants as reply
-use Rattle.zone_model.specs.State.{State, Block, opening, is_nil, is_escaped, with_edit, with_word, with_count, with_assoc, with_weak, without_blocks}
+use Rattle.zone_model.specs.State.{State, Block, opening, is_nil, is_escaped, with_word, with_count, with_assoc, with_weak}
 use Rattle.zone_model.specs.Quanta.{is_born_escaped}
 use Rattle.zone_model.specs.Collection.{with_action, actions_of, with_finalised}
 use Rattle.zone_model.specs.Effect.{Effect, new_block, with_new, weak_loc}
@@ -24,7 +24,7 @@ use Rattle.zone_model.specs.Misuses.{misuse_of}
 use Rattle.zone_model.specs.Step.{Step, Happens}
 use Rattle.zone_model.proofs.Intact.{Intact}
 use Rattle.zone_model.proofs.Made.{actions_same}
-use Rattle.zone_model.proofs.Blocks.{edit_get, left_get, got_escaped, escape_at, same_is}
+use Rattle.zone_model.proofs.EachBlock.{Each, each_edit, each_insert, each_left, each_escaped}
 use Rattle.zone_model.proofs.IntactCycles.{found_among, condemned_out}
 use Rattle.zone_model.proofs.IntactEscapes.{escape_intact}
 
@@ -33,44 +33,20 @@ pub record Fits (reclaims : ℕ) (b : Block) : Type 0 where
   pub inert : b.since ≡ None → (b.actions ≡ []) × (b.finalised ≡ false)
 
 abbrev pub AllFit : State → Type 0
-AllFit z = (q : BlockId) (b : Block) → get z.blocks q ≡ Some b → Fits z.reclaims b
+AllFit z = Each (Fits z.reclaims) z.blocks
 
-some_block : (a b : Block) → Some a ≡ Some b → a ≡ b
-some_block a b h = cc
+-- an escaped block, of now
+now_fits : (n : ℕ) (b : Block) → Fits n (record b { since = Some n })
+now_fits n b = record { since = λ k s. (let same : n ≡ k = cc in omega (arith, same)); inert = λ s. cc (s) }
+
+-- blocks escape
+pub escape_fits : (z : State) → AllFit z → (need : BlockId → Bool) → AllFit (with_escaped z need)
+escape_fits z all need = each_escaped (Fits z.reclaims) z need (λ b fits. now_fits z.reclaims b) all
 
 module _ (z : State) (all : AllFit z) where
-  -- a block is changed
-  edit_fits : (id : BlockId) (f : Block → Block) → ((b : Block) → get z.blocks id ≡ Some b → Fits z.reclaims b → Fits z.reclaims (f b)) → AllFit (record z { blocks = with_edit z.blocks id f })
-  edit_fits id f keeps q b h = by_key (same_id q id) refl (sym (edit_get z.blocks id f q) ∙ h)
-    where
-      at : (o : Option Block) → get z.blocks q ≡ o → q ≡ id → option_map f o ≡ Some b → Fits z.reclaims b
-      at None is same e = cc (e)
-      at (Some k) is same e = subst (Fits z.reclaims) (some_block (f k) b e) (keeps k (ap (get z.blocks) (sym same) ∙ is) (all q k is))
-
-      by_key : (t : Bool) → same_id q id ≡ t → cond t (option_map f (get z.blocks q)) (get z.blocks q) ≡ Some b → Fits z.reclaims b
-      by_key true e k = at (get z.blocks q) refl (same_is q id e) k
-      by_key false e k = all q b k
-
   word_fits : (a : Option BlockId) (at : ℕ) (w : Word) → AllFit (with_word z a at w)
   word_fits None at w = all
-  word_fits (Some id) at w = edit_fits id _ (λ b is fits. record { since = fits.since; inert = fits.inert })
-
-  -- blocks are gone
-  left_fits : (gone : List BlockId) → AllFit (without_blocks z gone)
-  left_fits gone q b h = by_test (among gone q) (sym (left_get z.blocks (among gone) q) ∙ h)
-    where
-      by_test : (t : Bool) → cond t None (get z.blocks q) ≡ Some b → Fits z.reclaims b
-      by_test true k = cc (k)
-      by_test false k = all q b k
-
-  -- blocks escape
-  pub escape_fits : (need : BlockId → Bool) → AllFit (with_escaped z need)
-  escape_fits need q b h = go (get z.blocks q) refl (need q) (sym (got_escaped z need q) ∙ h)
-    where
-      go : (o : Option Block) → get z.blocks q ≡ o → (t : Bool) → option_map (escape_at z t) o ≡ Some b → Fits z.reclaims b
-      go None is t e = cc (e)
-      go (Some k) is false e = subst (Fits z.reclaims) (some_block k b e) (all q k is)
-      go (Some k) is true e = subst (Fits z.reclaims) (some_block (escape_at z true k) b e) (record { since = λ n s. (let same : z.reclaims ≡ n = cc in omega (arith, same)); inert = λ s. cc (s) })
+  word_fits (Some id) at w = each_edit (Fits z.reclaims) z.blocks all id _ (λ b is fits. record { since = fits.since; inert = fits.inert })
 
   nil_of : (actions : List Action) → is_nil actions ≡ true → actions ≡ []
   nil_of [] h = refl
@@ -84,15 +60,11 @@ module _ (z : State) (all : AllFit z) where
   born t l actions = by_test (is_born_escaped z t l actions) refl
     where
       by_test : (e : Bool) → is_born_escaped z t l actions ≡ e → Fits z.reclaims (record (new_block z t l actions) { since = cond e (Some z.reclaims) None })
-      by_test true e = record { since = λ n s. (let same : z.reclaims ≡ n = cc in omega (arith, same)); inert = λ s. cc (s) }
+      by_test true e = now_fits z.reclaims (new_block z t l actions)
       by_test false e = record { since = λ n s. cc (s); inert = λ s. (nil_of actions (or_false (is_nil actions) _ e), refl) }
 
   new_fits : (t to : ℕ) (l : Layout) (actions : List Action) → AllFit (with_new z t to l actions)
-  new_fits t to l actions q b h = by_key (same_id q (id_of t (z.serials t))) (sym (get-insert ids_total z.blocks (id_of t (z.serials t)) (new_block z t l actions) q) ∙ h)
-    where
-      by_key : (u : Bool) → cond u (Some (new_block z t l actions)) (get z.blocks q) ≡ Some b → Fits z.reclaims b
-      by_key true k = subst (Fits z.reclaims) (some_block (new_block z t l actions) b k) (born t l actions)
-      by_key false k = all q b k
+  new_fits t to l actions = each_insert (Fits z.reclaims) z.blocks all (id_of t (z.serials t)) (new_block z t l actions) (born t l actions)
 
   counted : (o : Option BlockId) (n : ℕ) → AllFit (option_map_or (λ b. with_count z b n) o z)
   counted None n = all
@@ -119,7 +91,7 @@ actions_fit b (action.Pass g at ∷ more) z all = actions_fit b more (with_actio
 finalised_fits : (z : State) → AllFit z → (b : BlockId) → IsTrue (is_escaped z b) → AllFit (with_finalised (fold (with_action b) z (actions_of z b)) b)
 finalised_fits z all b out =
     let y = fold (with_action b) z (actions_of z b) in
-    edit_fits y (actions_fit b (actions_of z b) z all) b _ (λ k is fits.
+    each_edit (Fits y.reclaims) y.blocks (actions_fit b (actions_of z b) z all) b _ (λ k is fits.
     record { since = fits.since; inert = λ none. absurd (never k (ap (λ (m : FinMap id_cmp Block). get m b) (sym (actions_same b (actions_of z b) z).1) ∙ is) none) })
   where
     never : (k : Block) → get z.blocks b ≡ Some k → k.since ≡ None → ⊥
@@ -133,7 +105,7 @@ effect_fits z s all t (call.Put into at number) reply.Done a h = subst AllFit (s
 effect_fits z s all t (call.Get from at) (reply.Number k) a h = subst AllFit (sym h.1) all
 effect_fits z s all t (call.Copy to from) reply.Done a h = subst AllFit (sym h) all
 effect_fits z s all t (call.DropReg reg) reply.Done a h = subst AllFit (sym h) all
-effect_fits z s all t call.CollectLocal (reply.Reclaimed gone) a h = subst AllFit (sym h.1) (left_fits z all gone.list)
+effect_fits z s all t call.CollectLocal (reply.Reclaimed gone) a h = subst AllFit (sym h.1) (each_left (Fits z.reclaims) z.blocks all gone.list)
 effect_fits z s all t (call.SetRoot root from) reply.Done a h = subst AllFit (sym h) all
 effect_fits z s all t (call.GetRoot to root) (reply.Block b) a h = subst AllFit (sym h.1) all
 effect_fits z s all t (call.Retain reg) (reply.Number k) a h = subst AllFit (sym h.1) (counted z all (z.registers t reg) k)
@@ -148,8 +120,8 @@ effect_fits z s all t call.Stats (reply.Stats k) a h = subst AllFit (sym h.1) al
 effect_fits z s all t (call.Begin mode) reply.Begun a h = subst AllFit (sym h.1) all
 effect_fits z s all t call.Condemn (reply.Condemned r) a h = subst AllFit (sym h.4) all
 effect_fits z s all t call.Finalise (reply.Finalised b) a h = subst AllFit (sym h.3) (finalised_fits z all b (condemned_out z s t h.0 h.1 b (found_among _ h.0 b h.2)).1)
-effect_fits z s all t call.Reclaim (reply.Settled gone kept) a h = subst AllFit (sym h.does) (λ q b is. more_fit z.reclaims b (left_fits z all gone.list q b is))
-effect_fits z s all t call.Leave (reply.Reclaimed gone) a h = subst AllFit (sym h.does) (left_fits z all gone.list)
+effect_fits z s all t call.Reclaim (reply.Settled gone kept) a h = subst AllFit (sym h.does) (λ q b is. more_fit z.reclaims b (each_left (Fits z.reclaims) z.blocks all gone.list q b is))
+effect_fits z s all t call.Leave (reply.Reclaimed gone) a h = subst AllFit (sym h.does) (each_left (Fits z.reclaims) z.blocks all gone.list)
 effect_fits z s all t _ _ a h = absurd h
 
 happens_fit : (z : State) → Intact z → AllFit z → (t : ℕ) (c : Call) (r : Reply) (a : State) → Happens z t c r a → AllFit a

@@ -16,7 +16,7 @@ use Rattle.zone_model.specs.declared.call.Call.TheVariants as call
 use Rattle.zone_model.specs.declared.entry.Reply.{Reply}
 use Rattle.zone_model.specs.declared.entry.Reply.TheVariants as reply
 use Rattle.zone_model.specs.State.{State, Cycle, Block, is_nil}
-use Rattle.zone_model.specs.Collection.{HasCondemned, awaits, new_cycle, actions_of, with_action, with_finalised}
+use Rattle.zone_model.specs.Collection.{awaits, new_cycle, actions_of, with_action, with_finalised}
 use Rattle.zone_model.specs.Step.{Step, Happens, seen_now}
 use Rattle.zone_model.specs.Phases.{Free, Marking, Settling, CycleStays, left_in, left_among, May}
 use Rattle.zone_model.specs.Replies.{replied}

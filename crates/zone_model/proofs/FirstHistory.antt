@@ -14,7 +14,7 @@ use Rattle.block_layouts.specs.Layouts.{quanta, len_of}
 use Rattle.az_base.specs.OptionRanges.{usual_options}
 use Rattle.zone_model.specs.declared.call.Call.TheVariants as call
 use Rattle.zone_model.specs.declared.entry.Reply.TheVariants as reply
-use Rattle.zone_model.specs.Maps.{total-empty}
+use Rattle.zone_model.proofs.MapLaws.{total-empty}
 use Rattle.zone_model.specs.State.{State, Block, opening, is_own, with_block, with_register, with_next_serial, without_blocks}
 use Rattle.zone_model.specs.Worked.{first_thread, ids, first_block, new_entry, first_history}
 use Rattle.zone_model.specs.Quanta.{is_born_escaped}

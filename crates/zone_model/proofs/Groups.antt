@@ -1,6 +1,5 @@
 -- The entries of one line are determined by the state before them, but for the room of their lists
 use Rattle.std.proofs.Common.{◌≡◌, ℕ, zero, suc, Some, None, List, [], ◌∷◌, ◌++◌, map, replicate, find, refl, sym, ap, ap₂, subst, ◌∙◌, inl, inr, IsTrue}
-use Rattle.std.specs.List.{AllByRecursion}
 use Rattle.az_base.specs.declared.action.Mode.{Mode}
 use Rattle.az_base.specs.declared.block_id.BlockId.{BlockId}
 use Rattle.zone_model.specs.declared.act.Act.{Act}
@@ -22,25 +21,25 @@ use Rattle.zone_model.proofs.AtOnce.{condemned_once}
 use Rattle.zone_model.proofs.Replied.{step_once, step_after, one_value, one_condemned}
 
 -- the open cycle has just begun: it has seen the state alone
-abbrev pub Fresh : State → Type 0
-Fresh z = (c : Cycle) → z.cycle ≡ Some c → (c.moments ≡ moment z ∷ []) × ((b : BlockId) → IsTrue (c.start b) → IsTrue (is_escaped z b))
+abbrev pub JustBegun : State → Type 0
+JustBegun z = (c : Cycle) → z.cycle ≡ Some c → (c.moments ≡ moment z ∷ []) × ((b : BlockId) → IsTrue (c.start b) → IsTrue (is_escaped z b))
 
 some_same : {X : Type 0} (x y : X) → Some x ≡ Some y → x ≡ y
 some_same x y h = cc (h)
 
-fresh_cycle : (z : State) (t : ℕ) (m : Mode) → Fresh (seen_now (with_cycle z (Some (new_cycle z t m))))
+fresh_cycle : (z : State) (t : ℕ) (m : Mode) → JustBegun (seen_now (with_cycle z (Some (new_cycle z t m))))
 fresh_cycle z t m c h =
     let is = some_same _ c h in
     (sym (ap (λ (d : Cycle). d.moments) is), λ b s. subst (λ (d : Cycle). IsTrue (d.start b)) (sym is) s)
 
-begun : (z : State) (t : ℕ) (m : Mode) (a : State) → Happens z t (call.Begin m) reply.Begun a → Fresh a
-begun z t m a h = subst Fresh (sym (h.2 ∙ ap seen_now h.1.1)) (fresh_cycle z t m)
+begun : (z : State) (t : ℕ) (m : Mode) (a : State) → Happens z t (call.Begin m) reply.Begun a → JustBegun a
+begun z t m a h = subst JustBegun (sym (h.2 ∙ ap seen_now h.1.1)) (fresh_cycle z t m)
 
 -- a cycle that has just begun is fresh
-pub begun_fresh : (z : State) (t : ℕ) (m : Mode) (a : State) → Step z (replied t (call.Begin m) reply.Begun) a → Fresh a
+pub begun_fresh : (z : State) (t : ℕ) (m : Mode) (a : State) → Step z (replied t (call.Begin m) reply.Begun) a → JustBegun a
 begun_fresh z t m a k = begun z t m a (plain_happens z (replied t (call.Begin m) reply.Begun) a k (λ id n. n) refl)
 
-condemn_reply : (z : State) (t : ℕ) (r s : Reply) (a b : State) → Fresh z → Effect z t call.Condemn r a → Effect z t call.Condemn s b → bare_reply r ≡ bare_reply s
+condemn_reply : (z : State) (t : ℕ) (r s : Reply) (a b : State) → JustBegun z → Effect z t call.Condemn r a → Effect z t call.Condemn s b → bare_reply r ≡ bare_reply s
 condemn_reply z t (reply.Condemned g) (reply.Condemned d) a b fresh h k =
     let f = fresh h.0 h.1.0 in
     ap (λ ids. reply.Condemned (record { list = ids; spare = 0 }))
@@ -67,7 +66,7 @@ reclaim_begins : (m : Mode) → call.Reclaim ≡ call.Begin m → ⊥
 reclaim_begins m h = cc (h)
 
 -- a Condemn of a fresh cycle has one reply and one state after
-condemn_once : (z : State) (t : ℕ) (r s : Reply) (a b : State) → Fresh z → Step z (replied t call.Condemn r) a → Step z (replied t call.Condemn s) b → (bare_reply r ≡ bare_reply s) × (a ≡ b)
+condemn_once : (z : State) (t : ℕ) (r s : Reply) (a b : State) → JustBegun z → Step z (replied t call.Condemn r) a → Step z (replied t call.Condemn s) b → (bare_reply r ≡ bare_reply s) × (a ≡ b)
 condemn_once z t r s a b fresh h k =
     let x = cycle_effect z t call.Condemn r a condemn_begins (plain_happens z (replied t call.Condemn r) a h (λ id n. n) refl) in
     let y = cycle_effect z t call.Condemn s b condemn_begins (plain_happens z (replied t call.Condemn s) b k (λ id n. n) refl) in
@@ -120,8 +119,8 @@ reclaim_condemns : call.Reclaim ≡ call.Condemn → ⊥
 reclaim_condemns h = cc (h)
 
 -- two runs from one state with the same entries, but for room, and the same end
-abbrev pub Same : List Entry → List Entry → State → State → Type 0
-Same es fs y z = SameButRoom es fs × (y ≡ z)
+abbrev pub SameEnd : List Entry → List Entry → State → State → Type 0
+SameEnd es fs y z = SameButRoom es fs × (y ≡ z)
 
 call_head : (e : Entry) (es : List Entry) (c : Call) (cs : List Call) → calls_of (e ∷ es) ≡ c ∷ cs → (e.call ≡ c) × (calls_of es ≡ cs)
 call_head e es c cs h = (cc, cc)
@@ -137,7 +136,7 @@ no_more (e ∷ es) z y h run = absurd (more e es h)
     more : (e : Entry) (es : List Entry) → calls_of (e ∷ es) ≡ [] → ⊥
     more e es h = cc (h)
 
-both_done : (es fs : List Entry) (z y x : State) → calls_of es ≡ [] → calls_of fs ≡ [] → Run z es y → Run z fs x → Same es fs y x
+both_done : (es fs : List Entry) (z y x : State) → calls_of es ≡ [] → calls_of fs ≡ [] → Run z es y → Run z fs x → SameEnd es fs y x
 both_done es fs z y x h k run other =
     let d = no_more es z y h run in
     let g = no_more fs z x k other in
@@ -146,7 +145,7 @@ both_done es fs z y x h k run other =
 module _ (t : ℕ) where
   -- the rest of a cycle that has condemned
   settled_once : (n m : ℕ) (es fs : List Entry) (z y x : State) → calls_of es ≡ replicate n call.Finalise ++ call.Reclaim ∷ [] → calls_of fs ≡ replicate m call.Finalise ++ call.Reclaim ∷ []
-      → AllOf t es → AllOf t fs → Run z es y → Run z fs x → Same es fs y x
+      → AllOf t es → AllOf t fs → Run z es y → Run z fs x → SameEnd es fs y x
   settled_once zero zero [] fs z y x h k o p run other = absurd (no_entry _ _ h)
   settled_once zero zero (e ∷ es) [] z y x h k o p run other = absurd (no_entry _ _ k)
   settled_once zero zero (e ∷ es) (f ∷ fs) z y x h k o p run other =
@@ -177,8 +176,8 @@ module _ (t : ℕ) where
       absurd (either_one z t e.reply f.reply run.0 other.0 (as_replied z e t call.Finalise run.0 o.0 i.0 run.1) (as_replied z f t call.Reclaim other.0 p.0 j.0 other.1))
 
   -- what follows a Begin
-  followed_once : (n m : ℕ) (es fs : List Entry) (z y x : State) → Fresh z → calls_of es ≡ call.Condemn ∷ (replicate n call.Finalise ++ call.Reclaim ∷ []) → calls_of fs ≡ call.Condemn ∷ (replicate m call.Finalise ++ call.Reclaim ∷ [])
-      → AllOf t es → AllOf t fs → Run z es y → Run z fs x → Same es fs y x
+  followed_once : (n m : ℕ) (es fs : List Entry) (z y x : State) → JustBegun z → calls_of es ≡ call.Condemn ∷ (replicate n call.Finalise ++ call.Reclaim ∷ []) → calls_of fs ≡ call.Condemn ∷ (replicate m call.Finalise ++ call.Reclaim ∷ [])
+      → AllOf t es → AllOf t fs → Run z es y → Run z fs x → SameEnd es fs y x
   followed_once n m [] fs z y x fresh h k o p run other = absurd (no_entry _ _ h)
   followed_once n m (e ∷ es) [] z y x fresh h k o p run other = absurd (no_entry _ _ k)
   followed_once n m (e ∷ es) (f ∷ fs) z y x fresh h k o p run other =
@@ -203,10 +202,10 @@ module _ (t : ℕ) where
       let one = step_once z t (call.Begin m) e.reply f.reply re.0 rf.0 (begin_condemns m) (as_replied z e t (call.Begin m) re.0 oe.0 h.2 re.1) (as_replied z f t (call.Begin m) rf.0 pf.0 k.4 rf.1) in
       busy_begun (ap bare_reply (sym h.3) ∙ one.0 ∙ ap bare_reply k.5)
 
-  same_lists : (es fs ds gs : List Entry) (y x : State) → es ≡ ds → fs ≡ gs → Same ds gs y x → Same es fs y x
+  same_lists : (es fs ds gs : List Entry) (y x : State) → es ≡ ds → fs ≡ gs → SameEnd ds gs y x → SameEnd es fs y x
   same_lists es fs ds gs y x h k s = (ap (map bare_entry) h ∙ s.0 ∙ sym (ap (map bare_entry) k), s.1)
 
-  refused_once : (z : State) (m : Mode) (es fs : List Entry) (y x : State) → IsRefused m es → IsRefused m fs → AllOf t es → AllOf t fs → Run z es y → Run z fs x → Same es fs y x
+  refused_once : (z : State) (m : Mode) (es fs : List Entry) (y x : State) → IsRefused m es → IsRefused m fs → AllOf t es → AllOf t fs → Run z es y → Run z fs x → SameEnd es fs y x
   refused_once z m es fs y x h k o p run other =
       let oe = subst (AllOf t) h.1 o in
       let pf = subst (AllOf t) k.1 p in
@@ -215,7 +214,7 @@ module _ (t : ℕ) where
       let one = one_entry z h.0 k.0 t (call.Begin m) re.0 rf.0 (begin_condemns m) oe.0 h.2 pf.0 k.2 re.1 rf.1 in
       same_lists es fs (h.0 ∷ []) (k.0 ∷ []) y x h.1 k.1 (ap (λ e. e ∷ []) one.0, re.2 ∙ one.1 ∙ sym rf.2)
 
-  collected_once : (z : State) (m : Mode) (es fs : List Entry) (y x : State) → IsCollection m es → IsCollection m fs → AllOf t es → AllOf t fs → Run z es y → Run z fs x → Same es fs y x
+  collected_once : (z : State) (m : Mode) (es fs : List Entry) (y x : State) → IsCollection m es → IsCollection m fs → AllOf t es → AllOf t fs → Run z es y → Run z fs x → SameEnd es fs y x
   collected_once z m es fs y x h k o p run other =
       let e = h.0 in
       let f = k.0 in
@@ -228,7 +227,7 @@ module _ (t : ℕ) where
       let rest = followed_once h.2 k.2 h.1 k.1 re.0 y x fresh h.6 k.6 oe.1 pf.1 re.2 (subst (λ q. Run q k.1 x) (sym one.1) rf.2) in
       same_lists es fs (e ∷ h.1) (f ∷ k.1) y x h.3 k.3 (ap₂ (λ a b. a ∷ b) one.0 rest.0, rest.1)
 
-  called_once : (z : State) (c : Call) (es fs : List Entry) (y x : State) → (c ≡ call.Condemn → ⊥) → calls_of es ≡ c ∷ [] → calls_of fs ≡ c ∷ [] → AllOf t es → AllOf t fs → Run z es y → Run z fs x → Same es fs y x
+  called_once : (z : State) (c : Call) (es fs : List Entry) (y x : State) → (c ≡ call.Condemn → ⊥) → calls_of es ≡ c ∷ [] → calls_of fs ≡ c ∷ [] → AllOf t es → AllOf t fs → Run z es y → Run z fs x → SameEnd es fs y x
   called_once z c [] fs y x other h k o p run run2 = absurd (no_entry _ _ h)
   called_once z c (e ∷ es) [] y x other h k o p run run2 = absurd (no_entry _ _ k)
   called_once z c (e ∷ es) (f ∷ fs) y x other h k o p run run2 =
@@ -239,7 +238,7 @@ module _ (t : ℕ) where
       (ap₂ (λ a b. a ∷ b) one.0 rest.0, rest.1)
 
   -- the group of a line from a state is one, and so is the state after it
-  pub group_once : (z : State) (a : Act) (es fs : List Entry) (y x : State) → NoCondemn a → IsGroup a es → IsGroup a fs → AllOf t es → AllOf t fs → Run z es y → Run z fs x → Same es fs y x
+  pub group_once : (z : State) (a : Act) (es fs : List Entry) (y x : State) → NoCondemn a → IsGroup a es → IsGroup a fs → AllOf t es → AllOf t fs → Run z es y → Run z fs x → SameEnd es fs y x
   group_once z (act.Call c) es fs y x plain h k o p run other = called_once z c es fs y x plain h k o p run other
   group_once z (act.Collect m) es fs y x plain (inl h) (inl k) o p run other = refused_once z m es fs y x h k o p run other
   group_once z (act.Collect m) es fs y x plain (inr h) (inr k) o p run other = collected_once z m es fs y x h k o p run other

@@ -16,7 +16,7 @@ use Rattle.zone_model.specs.declared.call.Loc.TheVariants as loc
 use Rattle.zone_model.specs.declared.entry.Reply.{Reply}
 use Rattle.zone_model.specs.declared.entry.Reply.TheVariants as reply
 use Rattle.zone_model.specs.declared.entry.Entry.{Entry}
-use Rattle.zone_model.specs.Maps.{total-empty}
+use Rattle.zone_model.proofs.MapLaws.{total-empty}
 use Rattle.zone_model.specs.State.{State, opening, with_weak, with_assoc, with_count, is_escaped, is_condemned, count_of}
 use Rattle.zone_model.specs.Escape.{with_escaped, block_named}
 use Rattle.zone_model.specs.Misuses.{misuse_of}

@@ -10,7 +10,8 @@ use Rattle.az_base.specs.declared.word.Word.{Word}
 use Rattle.az_base.specs.declared.word.Word.TheVariants as word
 use Rattle.az_base.specs.Ids.{id_cmp, ids_total, exact_ids}
 use Rattle.block_layouts.specs.Layouts.{quanta, len_of}
-use Rattle.zone_model.specs.Maps.{total, total-insert, at_value}
+use Rattle.zone_model.specs.Maps.{total}
+use Rattle.zone_model.proofs.MapLaws.{total-insert, at_value}
 use Rattle.zone_model.specs.State.{State, Block, Cycle, moment, with_edit, with_word, referent, reference, word_at, is_escaped, is_own}
 use Rattle.zone_model.specs.Quanta.{used_quanta}
 use Rattle.zone_model.specs.Reach.{WordEdge}

@@ -1,3 +1,4 @@
+pub mod MapLaws
 pub mod Ones
 pub mod Steps
 pub mod Determined
@@ -13,6 +14,7 @@ pub mod WeakLaws
 pub mod WeakHistory
 pub mod Blocks
 pub mod Sums
+pub mod EachBlock
 pub mod Paths
 pub mod Anchoring
 pub mod Intact
@@ -47,3 +49,4 @@ pub mod Sharing
 pub mod LocalGains
 pub mod OthersCycles
 pub mod SoundLaws
+pub mod Ranges

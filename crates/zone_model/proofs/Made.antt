@@ -16,7 +16,7 @@ use Rattle.zone_model.specs.declared.entry.Reply.{Reply}
 use Rattle.zone_model.specs.declared.entry.Reply.TheVariants as reply
 use Rattle.zone_model.specs.declared.entry.Entry.{Entry}
 use Rattle.zone_model.specs.Room.{WithRoom}
-use Rattle.zone_model.specs.Maps.{get-map_values}
+use Rattle.zone_model.proofs.MapLaws.{get-map_values}
 use Rattle.zone_model.specs.State.{State, Block, Cycle, Moment, opening, with_edit, with_count, with_assoc, with_weak, is_escaped, moment}
 use Rattle.zone_model.specs.Escape.{with_escaped}
 use Rattle.zone_model.specs.Misuses.{misuse_of}

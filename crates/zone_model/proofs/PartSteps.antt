@@ -74,9 +74,9 @@ module _ (z : State) (e : Entry) (after : State) (s : Intact z) (made : AllMade 
           ∙ escaped_others z k.need u need_other
       by_misuse (Some m) right h = ap (λ x. part_of x u) h.1
 
-pub run_parts : (z : State) (es : List Entry) (after : State) (t : ℕ) → Intact z → AllMade z → Run z es after → PartRun (part_of z t) (entries_of t es) (part_of after t)
-run_parts z [] after t s made run = ap (λ x. part_of x t) run
-run_parts z (e ∷ es) after t s made run = by_thread (e.thread == t) refl (run_parts run.0 es after t (step_intact z e run.0 s made run.1) (step_made z e run.0 run.1 made) run.2)
+pub run_part : (z : State) (es : List Entry) (after : State) (t : ℕ) → Intact z → AllMade z → Run z es after → PartRun (part_of z t) (entries_of t es) (part_of after t)
+run_part z [] after t s made run = ap (λ x. part_of x t) run
+run_part z (e ∷ es) after t s made run = by_thread (e.thread == t) refl (run_part run.0 es after t (step_intact z e run.0 s made run.1) (step_made z e run.0 run.1 made) run.2)
   where
     by_thread : (b : Bool) → (e.thread == t) ≡ b → PartRun (part_of run.0 t) (entries_of t es) (part_of after t) → PartRun (part_of z t) (cond b (e ∷ entries_of t es) (entries_of t es)) (part_of after t)
     by_thread true is rest = (part_of run.0 t, subst (λ u. PartStep (part_of z u) e.call e.reply (part_of run.0 u)) (eqb-true e.thread t is) (step_own z e run.0 s made run.1), rest)
@@ -91,4 +91,4 @@ opening_is o t = ap (λ m. record (opening_part o) { blocks = m }) (are_blocks (
 
 -- the law Parts
 pub parts_law : (o : Options) (history : List Entry) (z : State) (t : ℕ) → Ends o history z → Solo o (entries_of t history) (part_of z t)
-parts_law o history z t ends = subst (λ p. PartRun p (entries_of t history) (part_of z t)) (opening_is o t) (run_parts (opening o) history z t (opening_intact o) (opening_made o) ends)
+parts_law o history z t ends = subst (λ p. PartRun p (entries_of t history) (part_of z t)) (opening_is o t) (run_part (opening o) history z t (opening_intact o) (opening_made o) ends)

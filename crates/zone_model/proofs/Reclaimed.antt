@@ -1,5 +1,5 @@
 -- What is reclaimed was in no use
-use Rattle.std.proofs.Common.{◌≡◌, ◌<◌, ℕ, ◌==◌, Bool, true, false, cond, None, Some, Option, List, [], ◌∷◌, refl, sym, ap, ◌∙◌, subst, ◌⊎◌, inl, inr, IsTrue, IsFalse, eq-eqb, eqb-true, ◌+◌, arith}
+use Rattle.std.proofs.Common.{◌≡◌, ℕ, ◌==◌, Bool, true, false, cond, None, Some, List, [], ◌∷◌, refl, sym, ◌∙◌, subst, ◌⊎◌, inl, inr, IsTrue, eq-eqb, eqb-true, ◌+◌, arith}
 use Rattle.std.specs.FinMap.{get}
 use Rattle.az_base.specs.declared.action.Mode.TheVariants as mode
 use Rattle.az_base.specs.declared.block_id.BlockId.{BlockId}
@@ -8,14 +8,13 @@ use Rattle.zone_model.specs.declared.call.Call.TheVariants as call
 use Rattle.zone_model.specs.declared.entry.Reply.TheVariants as reply
 use Rattle.zone_model.specs.Room.{WithRoom}
 use Rattle.zone_model.specs.State.{State, is_own, is_escaped, is_unescaped}
-use Rattle.zone_model.specs.Reach.{Edge, Path, IsHeld, Live, Anchors, AnchoredFor}
-use Rattle.zone_model.specs.Collection.{Reclaims, IsKept, with_end}
+use Rattle.zone_model.specs.Reach.{Edge, Path, IsHeld, Live, AnchoredFor}
+use Rattle.zone_model.specs.Collection.{Reclaims, with_end}
 use Rattle.zone_model.specs.Step.{Step}
 use Rattle.zone_model.specs.Sound.{Sound, Knows}
 use Rattle.zone_model.specs.Replies.{replied}
 use Rattle.zone_model.proofs.Steps.{plain_happens}
 use Rattle.zone_model.proofs.Blocks.{not_both, own_inside, own_thread}
-use Rattle.zone_model.proofs.Intact.{Intact}
 use Rattle.zone_model.proofs.IntactWords.{edge_known}
 use Rattle.zone_model.proofs.IntactCycles.{condemned_out}
 use Rattle.zone_model.proofs.Soundness.{sound_intact}

@@ -9,7 +9,6 @@ use Rattle.zone_model.specs.declared.call.Call.{Call}
 use Rattle.zone_model.specs.declared.call.Call.TheVariants as call
 use Rattle.zone_model.specs.declared.entry.Reply.{Reply}
 use Rattle.zone_model.specs.declared.entry.Reply.TheVariants as reply
-use Rattle.zone_model.specs.declared.entry.Entry.{Entry}
 use Rattle.zone_model.specs.Room.{WithRoom}
 use Rattle.zone_model.specs.Replies.{replied}
 use Rattle.zone_model.specs.Bare.{bare_reply}

@@ -1,18 +1,17 @@
 -- The laws, over sound states
-use Rattle.std.proofs.Common.{◌≡◌, ℕ, ◌==◌, true, false, List, ◌++◌, inl, inr, IsTrue, sym, ap, ◌∙◌, subst, Some}
+use Rattle.std.proofs.Common.{◌≡◌, ℕ, ◌==◌, true, false, List, inl, IsTrue, sym, ap, ◌∙◌, subst, Some}
 use Rattle.std.specs.Option.{option_map_or}
 use Rattle.az_base.specs.declared.block_id.BlockId.{BlockId}
-use Rattle.az_base.specs.declared.options.Options.{Options}
 use Rattle.az_base.specs.Ids.{among}
 use Rattle.zone_model.specs.declared.call.Call.TheVariants as call
 use Rattle.zone_model.specs.declared.entry.Entry.{Entry}
 use Rattle.zone_model.specs.declared.entry.Reply.TheVariants as reply
 use Rattle.zone_model.specs.Room.{WithRoom}
-use Rattle.zone_model.specs.State.{State, Cycle, is_escaped}
+use Rattle.zone_model.specs.State.{State, Cycle}
 use Rattle.zone_model.specs.Reach.{AnchoredFor}
 use Rattle.zone_model.specs.Collection.{HasCycle}
 use Rattle.zone_model.specs.Step.{Step}
-use Rattle.zone_model.specs.History.{Run, Ends, Legal, is_cycle_step}
+use Rattle.zone_model.specs.History.{Run, is_cycle_step}
 use Rattle.zone_model.specs.Part.{Part, part_of, PartStep, is_local}
 use Rattle.zone_model.specs.LocalSteps.{LocalStep, LocalRun}
 use Rattle.zone_model.specs.SameShared.{SameShared}
@@ -20,11 +19,11 @@ use Rattle.zone_model.specs.Waits.{Waiter, Waits, waiting_of}
 use Rattle.zone_model.specs.Phases.{CycleStays, NoneOf}
 use Rattle.zone_model.specs.Replies.{replied}
 use Rattle.zone_model.specs.Sound.{Sound, is_started}
-use Rattle.zone_model.proofs.Soundness.{sound_intact, sound_made, run_sound}
+use Rattle.zone_model.proofs.Soundness.{sound_intact, sound_made}
 use Rattle.zone_model.proofs.PartSteps.{step_own, step_others}
 use Rattle.zone_model.proofs.LocalCalls.{local_step, step_local}
 use Rattle.zone_model.proofs.Sharing.{step_shared}
-use Rattle.zone_model.proofs.Waiting.{local_run, all_waiting, all_waiting_legal}
+use Rattle.zone_model.proofs.Waiting.{local_run, all_waiting}
 use Rattle.zone_model.proofs.OthersCycles.{step_stays, run_stays}
 use Rattle.zone_model.proofs.AtOnce.{condemn_takes, condemned_unanchored}
 use Rattle.zone_model.proofs.Moments.{the_cycle}

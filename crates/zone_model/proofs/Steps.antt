@@ -7,7 +7,7 @@ use Rattle.az_base.specs.declared.misuse.Misuse.{Misuse}
 use Rattle.az_base.specs.Ids.{id_cmp, ids_total, exact_ids}
 use Rattle.zone_model.specs.declared.entry.Entry.{Entry}
 use Rattle.zone_model.specs.declared.entry.Reply.TheVariants as reply
-use Rattle.zone_model.specs.Maps.{get-map_values}
+use Rattle.zone_model.proofs.MapLaws.{get-map_values}
 use Rattle.zone_model.specs.State.{State, moment}
 use Rattle.zone_model.specs.Escape.{Need, Tells, with_escaped}
 use Rattle.zone_model.specs.Misuses.{misuse_of}

@@ -10,7 +10,8 @@ use Rattle.std.specs.FinMap.Entries.{below_all}
 use Rattle.az_base.specs.declared.block_id.BlockId.{BlockId}
 use Rattle.az_base.specs.Ids.{ids_total, exact_ids}
 use Rattle.block_layouts.specs.Layouts.{quanta, len_of}
-use Rattle.zone_model.specs.Maps.{total, list_total, map_values, each_value, sorted-each, get-map_values}
+use Rattle.zone_model.specs.Maps.{total, list_total, map_values, each_value}
+use Rattle.zone_model.proofs.MapLaws.{sorted-each, get-map_values}
 use Rattle.zone_model.specs.State.{State, Block, is_own, is_unescaped}
 use Rattle.zone_model.specs.Escape.{with_escaped}
 use Rattle.zone_model.specs.Quanta.{quanta_where, used_quanta, own_quanta, quanta_needed}

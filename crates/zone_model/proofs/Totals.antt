@@ -1,25 +1,13 @@
 -- Sums over finite maps, where an entry is put in and where entries are left out
-use Rattle.std.proofs.Common.{◌≡◌, ℕ, ◌+◌, Bool, true, false, cond, ◌&&◌, T, List, [], ◌∷◌, Option, Some, None, refl, sym, ap, ◌∙◌, arith}
+use Rattle.std.proofs.Common.{◌≡◌, ℕ, ◌+◌, Bool, true, false, cond, T, List, [], ◌∷◌, Option, Some, None, refl, sym, ap, ◌∙◌, arith}
 use Rattle.std.specs.declared.cmp.Ordering.{Ordering}
 use Rattle.std.specs.declared.cmp.Ordering.TheVariants.{Less, Equal, Greater}
-use Rattle.std.specs.Ordering.{is_eq, is_lt}
+use Rattle.std.specs.Ordering.{is_eq}
 use Rattle.std.specs.Cmp.{IsTotalOrder, tied_itself}
 use Rattle.std.specs.FinMap.{FinMap, IsAntisymmetric, entries, entries_sorted, find, get, get-entries, get-retain_keys, insert, is_sorted, retain_keys}
 use Rattle.std.specs.FinMap.Entries.{below_all, where_key, is_sorted-where_key, find-where_key, same_entries}
-use Rattle.zone_model.specs.Maps.{total, total-insert, list_total, at_value}
-
-first : (a b : Bool) → T (a && b) → T a
-first true b p = tt
-first false b p = p
-
-second : (a b : Bool) → T (a && b) → T b
-second true b p = p
-second false b p = absurd p
-
-less : (o : Ordering) → T (is_lt o) → o ≡ Less
-less Less p = refl
-less Equal p = absurd p
-less Greater p = absurd p
+use Rattle.zone_model.specs.Maps.{total, list_total}
+use Rattle.zone_model.proofs.MapLaws.{at_value, total-insert, first, second, find_below}
 
 module _ {K X : Type 0} {R : K → K → Ordering} (o : IsTotalOrder R) (same : IsAntisymmetric R) where
   -- a sum after an entry was put in where there was none
@@ -36,16 +24,12 @@ module _ {K X : Type 0} {R : K → K → Ordering} (o : IsTotalOrder R) (same : 
       let alike : (x : K) → R q x ≡ Equal → p x ≡ p q = λ x e. ap p (sym (same q x e)) in
       sym (get-entries (retain_keys m p) q) ∙ get-retain_keys m p q alike ∙ ap (λ (v : Option X). cond (p q) v None) (get-entries m q) ∙ sym (find-where_key R p q alike (entries m)))
 
-  find_below : (q : K) (es : List (K × X)) → T (below_all R q es) → find R q es ≡ None
-  find_below q [] h = refl
-  find_below q (e ∷ es) h = ap (λ r. cond (is_eq r) (Some e.1) (find R q es)) (less _ (first _ _ h)) ∙ find_below q es (second _ _ h)
-
   -- what is found in the rest of a list in order is found in the list
   found_later : (e : K × X) (es : List (K × X)) (k : K) (x : X) → T (below_all R e.0 es) → find R k es ≡ Some x → find R k (e ∷ es) ≡ Some x
   found_later e es k x below is =
       elim (R k e.0) as (λ r. R k e.0 ≡ r → cond (is_eq r) (Some e.1) (find R k es) ≡ Some x) [
         | Less ↦ λ t. is
-        | Equal ↦ λ t. let none : None ≡ Some x = sym (find_below e.0 es below) ∙ ap (λ q. find R q es) (sym (same k e.0 t)) ∙ is in cc (none)
+        | Equal ↦ λ t. let none : None ≡ Some x = sym (find_below o e.0 es below) ∙ ap (λ q. find R q es) (sym (same k e.0 t)) ∙ is in cc (none)
         | Greater ↦ λ t. is
       ] refl
 

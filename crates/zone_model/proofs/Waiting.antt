@@ -30,8 +30,8 @@ pub run_append : (z : State) (es : List Entry) (mid : State) (later : List Entry
 run_append z [] mid later after r s = subst (λ y. Run y later after) r s
 run_append z (e ∷ es) mid later after r s = (r.0, r.1, run_append r.0 es mid later after r.2 s)
 
--- what a run of one thread's local entries reaches
-pub record Reaches (z : State) (t : ℕ) (es : List Entry) (last : Part) : Type 0 where
+-- where a run of one thread's local entries ends
+pub record LocalEnd (z : State) (t : ℕ) (es : List Entry) (last : Part) : Type 0 where
   pub after : State
   pub run : Run z es after
   pub sound : Intact after
@@ -40,7 +40,7 @@ pub record Reaches (z : State) (t : ℕ) (es : List Entry) (last : Part) : Type 
   pub others : (u : ℕ) → (t == u) ≡ false → part_of after u ≡ part_of z u
   pub shared : SameShared z after
 
-pub local_run : (z : State) (t : ℕ) (es : List Entry) (last : Part) → Intact z → AllMade z → LocalRun (part_of z t) t es last → Reaches z t es last
+pub local_run : (z : State) (t : ℕ) (es : List Entry) (last : Part) → Intact z → AllMade z → LocalRun (part_of z t) t es last → LocalEnd z t es last
 local_run z t [] last s made run = record { after = z; run = refl; sound = s; made = made; part = sym run; others = λ u other. refl; shared = same_shared z t }
 local_run z t (e ∷ es) last s made run =
     let first = local_step z s made t e run.0 run.1 in

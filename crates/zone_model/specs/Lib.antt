@@ -16,6 +16,7 @@ pub mod SameShared
 pub mod Waits
 pub mod Reached
 pub mod Sound
+pub mod InRange
 pub mod Phases
 pub mod WeakShows
 pub mod Bare

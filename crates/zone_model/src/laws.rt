@@ -27,7 +27,7 @@ pub use reached::{
     changes_that_add_edges_to_anchored_blocks, edges_stay_among_the_reached, reached_blocks_go_on,
 };
 pub use replies::{calls_have_one_reply, groups_have_one_outcome, local_calls_have_one_reply};
-pub use soundness::{soundness_is_kept, states_are_sound};
+pub use soundness::{registers_and_roots_stay_in_range, soundness_is_kept, states_are_sound};
 pub use waiting::{waiting_entries_are_steps, waiting_entries_of_all_threads_are_steps};
 pub use weak::{
     weak_locations_show_what_was_assigned, weak_locations_stay_without_collections,

@@ -9,6 +9,7 @@ ghost use Rattle.zone_model.specs.Escape.{Tells, EscFrom, with_escaped};
 ghost use Rattle.zone_model.specs.Step.{Step};
 ghost use Rattle.zone_model.specs.History.{Ends};
 ghost use Rattle.zone_model.specs.Sound.{Sound};
+ghost use Rattle.zone_model.specs.InRange.{InRange, CallInRange};
 
 /// Each state of a legal history is sound.
 pub fn states_are_sound()
@@ -21,4 +22,10 @@ pub fn soundness_is_kept()
     ensures opening { (o : Options) → Sound (opening o) }
     ensures step { (z : State) (e : Entry) (after : State) → Sound z → Step z e after → Sound after }
     ensures escape { (z : State) (first : List BlockId) (need : BlockId → Bool) → Sound z → Tells need (EscFrom z first) → used_quanta z + quanta_needed z need ≤ z.options.heap_quanta → Sound (with_escaped z need) }
+{}
+
+/// Registers past 15 and roots past 255 are null, and stay so by each step of a call that is in range.
+pub fn registers_and_roots_stay_in_range()
+    ensures opening { (o : Options) → InRange (opening o) }
+    ensures step { (z : State) (e : Entry) (after : State) → InRange z → CallInRange e.call → Step z e after → InRange after }
 {}

@@ -4,7 +4,7 @@ use Rattle.az_base.specs.Ids.{id_cmp}
 use Rattle.az_base.specs.Places.{loc_cmp, pair_cmp}
 use Rattle.std.specs.FinMap.{get, empty, get-empty}
 use Rattle.zone_model.specs.State.{Block, opening}
-use Rattle.zone_model.specs.Maps.{total-empty}
+use Rattle.zone_model.proofs.MapLaws.{total-empty}
 use Rattle.zone_model.specs.Quanta.{used_quanta}
 use Rattle.play_core.specs.StandsFor.{unescaped}
 use Rattle.play_core.proofs.zone.SoloZone.new.Goals as goal

@@ -3,7 +3,7 @@ use Rattle.std.proofs.lemmas.List.{length-replicate}
 use Rattle.az_base.specs.declared.block_id.BlockId.{BlockId}
 use Rattle.az_base.specs.Ids.{id_cmp}
 use Rattle.block_layouts.specs.Layouts.{quanta, len_of}
-use Rattle.zone_model.specs.Maps.{total-empty}
+use Rattle.zone_model.proofs.MapLaws.{total-empty}
 use Rattle.shared_heap.specs.Stored.{Kept}
 use Rattle.shared_heap.specs.Shared.{used_by, number_of}
 use Rattle.shared_heap.proofs.Retained.{below_empty}
