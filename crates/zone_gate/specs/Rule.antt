@@ -1,6 +1,7 @@
 -- The rule of the gate's table: what holds between any two atomic steps, whoever makes them
 use Rattle.std.specs.Prelude.{◌≡◌, ◌⊎◌, ◌≤◌, ◌<◌, ◌^◌, ◌%◌, ℕ, ◌+◌, true, List, [], ◌∷◌, Option, Some, All, Contains}
 use mathlib.Core.Option.{some, none}
+use mathlib.Core.Option as maybe
 use mathlib.Core.List.{IsPrefix}
 use lib.ListN.{get_elem?}
 use Rattle.az_base.specs.declared.options.Options.{Options}
@@ -40,9 +41,13 @@ pub record Fits (options : Options) (threads : List ℕ) (list : List Entry) (se
 abbrev pub Apart : List View → Type 0
 Apart views = (i j : ℕ) (v w : View) → get_elem? views i ≡ some v → get_elem? views j ≡ some w → Shares v w → i ≡ j
 
+-- what each slot has at home, where no seat has it out
+abbrev pub Homes : Type 0 → Type 0
+Homes X = List (maybe.Option (Option X))
+
 module _ {X : Type 0} where
   -- the slot is out with a seat that holds it
-  pub record Away (homes : List (mathlib.Core.Option.Option (Option X))) (views : List View) : Type 0 where
+  pub record Away (homes : Homes X) (views : List View) : Type 0 where
     pub at : get_elem? homes 0 ≡ some none
     pub id : ℕ
     pub view : View
@@ -51,7 +56,7 @@ module _ {X : Type 0} where
 
 module _ {X : Type 0} (list_of : X → List Entry) (options_of : X → Options) where
   -- the slot is at home, and its value has this list and these options
-  pub record Home (options : Options) (list : List Entry) (homes : List (mathlib.Core.Option.Option (Option X))) : Type 0 where
+  pub record Home (options : Options) (list : List Entry) (homes : Homes X) : Type 0 where
     pub value : X
     pub at : get_elem? homes 0 ≡ some (some (Some value))
     pub list_is : list_of value ≡ list

@@ -16,6 +16,7 @@ use crate::steps::{GateTable, split_first, unite};
 use az_base::{NoMemory, ThreadNo};
 use std::alloc::Global;
 
+// A copy of the threads, each asked for its number, which tells its range.
 pub(crate) fn copied(alloc: Global, threads: &[ThreadNo]) -> Result<Vec<ThreadNo>, NoMemory>
     ensures { IfOk result (λ v. (v.items ≡ threads.now) × All (λ t. (0 < t) × (t ≤ most_threads)) v.items) }
 {

@@ -43,7 +43,6 @@ mod steps;
 mod view;
 
 pub use cut::Cut;
-pub use cuts::Cuts;
 pub use gate::Gate;
 pub use held::Held;
 pub use kept::Kept;

@@ -32,6 +32,7 @@ const VALUE: usize = 0;
 // How often the seat that is next looks before it sleeps: some microseconds.
 const SPINS: u32 = 100;
 
+// Draws a ticket. The thread is for the contract alone.
 pub(crate) fn draw<V: Kept>(table: &GateTable<V>, token: &mut Token<V>, thread: ThreadNo) -> u64
     requires table { token.old.table_id ≡ table.now.table_id }
     requires sized { IsSized table.now.table_id }
@@ -76,6 +77,7 @@ pub(crate) fn wait_turn<V: Kept, R: Wait>(
     unreachable!()
 }
 
+// Takes the value out of the slot.
 pub(crate) fn take_out<V: Kept>(table: &GateTable<V>, token: &mut Token<V>) -> V
     requires table { token.old.table_id ≡ table.now.table_id }
     requires slot { (value : _) × (token.old.me.1 ≡ (0, Some value) ∷ []) }
@@ -88,7 +90,8 @@ pub(crate) fn take_out<V: Kept>(table: &GateTable<V>, token: &mut Token<V>) -> V
     value
 }
 
-// The value goes into the slot, the slot goes home, and the next ticket is served.
+// The value goes into the slot, the slot goes home, and the next ticket is served. `was` and the thread are for the
+// contract alone.
 pub(crate) fn put_back<V: Kept>(
     table: &GateTable<V>,
     bells: &Bells,
