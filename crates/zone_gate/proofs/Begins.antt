@@ -64,14 +64,6 @@ shorter_if false xs ys p q = p
 pub shorter_longer : (xs ys : List Entry) → IsPrefix xs (longer xs ys) → IsPrefix ys (longer xs ys) → IsPrefix (shorter xs ys) (longer xs ys)
 shorter_longer xs ys p q = shorter_if (leb (length ys) (length xs)) xs ys p q
 
-both_if : (b : Bool) (xs ys : List Entry) → IsPrefix (chosen_list b ys xs) (chosen_list b xs ys) → IsPrefix xs (chosen_list b xs ys) × IsPrefix ys (chosen_list b xs ys)
-both_if true xs ys p = (prefix_self xs, p)
-both_if false xs ys p = (p, prefix_self ys)
-
--- where the shorter of two lists begins the longer, both begin it
-pub both_begin : (xs ys : List Entry) → IsPrefix (shorter xs ys) (longer xs ys) → IsPrefix xs (longer xs ys) × IsPrefix ys (longer xs ys)
-both_begin xs ys p = both_if (leb (length ys) (length xs)) xs ys p
-
 drop_front : (xs ys : List Entry) → drop (length xs) (xs ++ ys) ≡ ys
 drop_front [] ys = refl
 drop_front (x ∷ xs) ys = drop_front xs ys

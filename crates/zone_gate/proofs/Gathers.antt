@@ -1,5 +1,5 @@
 -- Taking in seats, and what is known at the end
-use Rattle.std.proofs.Common.{◌≡◌, ℕ, zero, suc, ◌+◌, ◌<◌, List, [], ◌∷◌, ◌++◌, length, map, drop, get_or, All, Contains, Option, refl, ap, sym, ◌∙◌, subst, inl, inr, arith, append_assoc, append-nil, length-append, drop-cons, add-one}
+use Rattle.std.proofs.Common.{◌≡◌, ℕ, zero, suc, ◌+◌, ◌<◌, List, [], ◌∷◌, ◌++◌, length, map, get_or, All, Contains, Option, refl, ap, sym, ◌∙◌, subst, inl, inr, arith, append_assoc, length-append}
 use Rattle.std.proofs.lemmas.List.{get_or_append_left}
 use mathlib.Core.List.{IsPrefix}
 use Rattle.atomic_table.specs.Table.{Me}
@@ -11,11 +11,11 @@ use Rattle.zone_gate.specs.declared.cut.Cut.{Cut}
 use Rattle.zone_gate.specs.declared.view.View.{View}
 use Rattle.zone_gate.specs.declared.view.Owned.{Owned}
 use Rattle.zone_gate.specs.Gathering.{Gathered, Knows, KnowsAll}
-use Rattle.zone_gate.specs.Owning.{Has, HasThread, OwnIn, fresh, owned}
+use Rattle.zone_gate.specs.Owning.{Has, HasThread, OwnIn, owned}
 use Rattle.zone_gate.specs.Shown.{SeatShown}
-use Rattle.zone_gate.specs.Tokens.{AtRest, entries_in, view_in}
+use Rattle.zone_gate.specs.Tokens.{entries_in, view_in}
 use Rattle.zone_gate.specs.Views.{longer, resting}
-use Rattle.zone_gate.proofs.Begins.{prefix_self, prefix_trans}
+use Rattle.zone_gate.proofs.Begins.{prefix_trans}
 
 has_left : (x : Owned) (a b : List Owned) → Has x a → Has x (a ++ b)
 has_left x [] b h = absurd h
@@ -45,9 +45,6 @@ knows_append v [] b ka kb = kb
 knows_append v (s ∷ ss) b ka kb = (ka.0, knows_append v ss b ka.1 kb)
 
 module _ {X : Type 0} where
-  pub gathers_none : (me : Me (Option X) View) (all : List SeatShown) → AtRest me → Gathered me me all all
-  gathers_none me all at_rest = record { taken = []; parts = sym (append-nil all); knows = tt; at_rest = at_rest; seen = prefix_self me.0.seen; own = λ x h. h; options_are = refl }
-
   -- one more seat was taken in
   pub gathers : (start me me' : Me (Option X) View) (all left left' : List SeatShown) (s : SeatShown) (o : Options) → Gathered start me all left → left ≡ left' ++ s ∷ []
       → me' ≡ (resting me.0.options (longer me.0.seen s.seen) (me.0.own ++ owned s.thread s.own ∷ []), [])
@@ -107,10 +104,6 @@ all_threads v (s ∷ ss) t k c = at c.0 c.1 c.2 (λ there. all_threads v ss t k.
     at : (i : ℕ) → i < length (map (λ (x : SeatShown). x.thread) (s ∷ ss)) → get_or (map (λ (x : SeatShown). x.thread) (s ∷ ss)) i t ≡ t → (Contains (map (λ (x : SeatShown). x.thread) ss) t → HasThread t v.own) → HasThread t v.own
     at zero l e later = subst (λ (u : ℕ). HasThread u v.own) e (Has-HasThread (owned s.thread s.own) v.own k.0.1)
     at (suc i) l e later = later (i, omega arith, e)
-
--- the seats that are dealt, one by one
-pub fresh_next : (ts : List ℕ) (i : ℕ) → i < length ts → fresh (drop i ts) ≡ owned (get_or ts i 0) [] ∷ fresh (drop (i + 1) ts)
-fresh_next ts i l = rw (add-one, drop-cons ts i 0) refl
 
 pub all_front : (P : SeatShown → Type 0) (xs ys : List SeatShown) (s : SeatShown) → xs ≡ ys ++ s ∷ [] → All P xs → All P ys
 all_front P xs [] s e all k d l = absurd (omega arith)
