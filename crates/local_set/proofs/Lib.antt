@@ -1,0 +1,10 @@
+pub mod Tables
+pub mod Quantities
+pub mod Counting
+pub mod Lists
+pub mod Walks
+pub mod Editing
+pub mod Serials
+pub mod Referents
+pub mod Sorting
+pub mod Collecting

@@ -1,0 +1,10 @@
+use Rattle.std.proofs.Common.{ap, Some, sym, ◌∙◌, option_map}
+use Rattle.zone_model.specs.State.{Block}
+use Rattle.local_set.proofs.Tables.{missing, there_is}
+use Rattle.local_set.proofs.blocks.Blocks.layout.Goals as goal
+
+pub unreachable-requires : goal.unreachable-requires
+unreachable-requires c = missing c.self.inside.stored.entries c.args.id c.in_default.ensures.value (rw (← c.self.view_is) at c.requires)
+
+pub returns : goal.returns
+returns c = rw (← c.self.view_is) (ap (option_map (λ (b : Block). b.layout)) (there_is c.self.inside.stored.entries c.args.id c.in-Some.block.now c.in-Some.ensures.value) ∙ sym (ap Some c.layout.ensures))

@@ -1,0 +1,14 @@
+use Rattle.std.proofs.Common.{ap, Some, sym, subst, ◌∙◌, option_map, MatchOption}
+use Rattle.zone_model.specs.State.{Block}
+use Rattle.block_layouts.specs.Fitting.{Fits}
+use Rattle.local_set.proofs.Tables.{missing, there_is}
+use Rattle.local_set.proofs.blocks.Blocks.words.Goals as goal
+
+pub unreachable-requires : goal.unreachable-requires
+unreachable-requires c = missing c.self.inside.stored.entries c.args.id c.in_default.ensures.value (rw (← c.self.view_is) at c.requires)
+
+pub returns-clause-words : goal.returns-clause-words
+returns-clause-words c = rw (← c.self.view_is) (ap (option_map (λ (b : Block). b.words)) (there_is c.self.inside.stored.entries c.args.id c.in-Some.block.now c.in-Some.ensures.value) ∙ sym (ap Some c.words.ensures.words))
+
+pub returns-clause-fit : goal.returns-clause-fit
+returns-clause-fit c = rw (← c.self.view_is) (subst (λ o. MatchOption o ⊥ (λ (b : Block). Fits b.layout b.words)) (sym (there_is c.self.inside.stored.entries c.args.id c.in-Some.block.now c.in-Some.ensures.value)) c.words.ensures.fit)
