@@ -50,3 +50,10 @@ pub mod LocalGains
 pub mod OthersCycles
 pub mod SoundLaws
 pub mod Ranges
+pub mod WorkedZones
+pub mod WorkedCycles
+pub mod WorkedBusy
+pub mod WorkedGarbage
+pub mod WorkedFinaliser
+pub mod WorkedDead
+pub mod WorkedYoung

@@ -22,3 +22,4 @@ pub mod WeakShows
 pub mod Bare
 pub mod Replies
 pub mod Worked
+pub mod WorkedCollections

@@ -1,6 +1,7 @@
 //! Theorems over the definitions, by what they speak of. Each is the contract of a function that does nothing.
 
 mod collecting;
+mod collections;
 mod histories;
 mod parts;
 mod phases;
@@ -13,6 +14,11 @@ mod weak;
 pub use collecting::{
     a_condemn_at_once_is_exact, blocks_reclaimed_by_their_thread_are_not_live,
     condemned_blocks_are_not_anchored, reclaimed_blocks_are_not_anchored,
+};
+pub use collections::{
+    a_dead_block_outside_keeps_what_it_refers_to, a_finaliser_may_keep_its_block,
+    a_second_cycle_is_busy, an_old_block_keeps_what_it_refers_to_young,
+    garbage_is_condemned_and_held_blocks_are_not,
 };
 pub use histories::{
     first_history_is_legal, first_history_must_reclaim, histories_end_once, steps_are_determined,

@@ -72,7 +72,10 @@ pub use act::Act;
 pub use call::{Call, Loc};
 pub use entry::{Entry, Reply, Stats};
 pub use laws::{
-    a_condemn_at_once_is_exact, blocks_reclaimed_by_their_thread_are_not_live,
+    a_condemn_at_once_is_exact, a_dead_block_outside_keeps_what_it_refers_to,
+    a_finaliser_may_keep_its_block, a_second_cycle_is_busy,
+    an_old_block_keeps_what_it_refers_to_young, blocks_reclaimed_by_their_thread_are_not_live,
+    garbage_is_condemned_and_held_blocks_are_not,
     calls_have_one_reply, changes_that_add_edges_to_anchored_blocks,
     condemned_blocks_are_not_anchored, cycles_stay_while_others_step, edges_stay_among_the_reached,
     first_history_is_legal, first_history_must_reclaim, groups_have_one_outcome,
