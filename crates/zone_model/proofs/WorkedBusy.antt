@@ -1,5 +1,5 @@
 -- A second cycle while one is open
-use Rattle.std.proofs.Common.{◌≡◌, [], ◌∷◌, Some, None, refl, sym, ap, ◌∙◌, IsTrue, is_some, false, true, option_and_then}
+use Rattle.std.proofs.Common.{◌≡◌, [], ◌∷◌, refl, sym, ap, ◌∙◌, IsTrue, is_some, false, true, option_and_then}
 use Rattle.std.specs.FinMap.{get-empty}
 use Rattle.az_base.specs.declared.action.Mode.TheVariants as mode
 use Rattle.az_base.specs.declared.block_id.BlockId.{BlockId}

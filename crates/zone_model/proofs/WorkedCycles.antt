@@ -1,6 +1,5 @@
 -- The steps of a cycle of thread 1, from a zone in which none is open
-use Rattle.std.proofs.Common.{◌≡◌, ℕ, ◌+◌, Bool, true, false, not, cond, [], ◌∷◌, List, Option, Some, None, refl, sym, ap, ap₂, ◌∙◌, subst, IsTrue, IsFalse, inl, inr, ◌⊎◌, is_some, option_and_then, arith}
-use Rattle.std.specs.Option.{option_map_or}
+use Rattle.std.proofs.Common.{◌≡◌, ◌+◌, Bool, true, false, not, cond, [], ◌∷◌, List, Option, Some, None, refl, sym, ap, ◌∙◌, subst, IsTrue, is_some, option_and_then, arith}
 use Rattle.std.specs.declared.cmp.Ordering.{Ordering}
 use Rattle.std.specs.Cmp.{IsTotalOrder}
 use Rattle.std.specs.FinMap.{FinMap, IsAntisymmetric, get, retain_keys, get-retain_keys, same_map}
@@ -8,14 +7,14 @@ use Rattle.std.specs.List.Sorted.{IsStrictlySortedBy}
 use Rattle.az_base.specs.declared.action.Mode.{Mode}
 use Rattle.az_base.specs.declared.action.Mode.TheVariants as mode
 use Rattle.az_base.specs.declared.block_id.BlockId.{BlockId}
-use Rattle.az_base.specs.Ids.{id_cmp, ids_total, exact_ids, among}
+use Rattle.az_base.specs.Ids.{ids_total, exact_ids, among}
 use Rattle.az_base.specs.declared.weak_loc.WeakLoc.{WeakLoc}
 use Rattle.az_base.specs.declared.weak_loc.WeakLoc.TheVariants as weak
 use Rattle.az_base.specs.Places.{pairs_total, exact_pair, locs_total, exact_locs}
 use Rattle.zone_model.specs.State.{State, Cycle, moment, with_cycle, without, is_escaped, is_word_of}
-use Rattle.zone_model.specs.Reach.{AnchoredFor, in_scope}
-use Rattle.zone_model.specs.Collection.{HasCondemned, MayCondemn, IsReached, WasAnchored, with_condemned, shows_one, IsKept, Reclaims, Lists, awaits}
-use Rattle.zone_model.specs.Step.{Step, seen_now}
+use Rattle.zone_model.specs.Reach.{AnchoredFor}
+use Rattle.zone_model.specs.Collection.{HasCondemned, MayCondemn, WasAnchored, with_condemned, shows_one, Reclaims, Lists}
+use Rattle.zone_model.specs.Step.{Step}
 use Rattle.zone_model.specs.History.{Run}
 use Rattle.zone_model.specs.WorkedCollections.{begun, condemned, settled, nothing_collected}
 use Rattle.zone_model.proofs.Steps.{step_plain, plain_happens}

@@ -1,8 +1,8 @@
 -- A dead block outside the condemned set that refers to a condemned block
-use Rattle.std.proofs.Common.{◌≡◌, ℕ, ◌+◌, ◌==◌, ◌&&◌, ◌||◌, nat_lt, Bool, true, false, not, cond, [], ◌∷◌, ◌++◌, List, Option, Some, None, refl, sym, ap, ◌∙◌, subst, IsTrue, IsFalse, inl, inr, ◌⊎◌, ◌<◌, fold, find, is_some, is_none, option_and_then, unwrap_or, slice_get, slice_set, arith}
+use Rattle.std.proofs.Common.{◌≡◌, ℕ, ◌+◌, ◌==◌, ◌&&◌, ◌||◌, nat_lt, Bool, true, false, not, cond, [], ◌∷◌, ◌++◌, Option, Some, None, refl, sym, ap, ◌∙◌, subst, IsTrue, inl, inr, ◌<◌, fold, find, is_some, is_none, option_and_then, unwrap_or, slice_get, slice_set, arith}
 use Rattle.std.specs.Option.{option_map_or}
 use Rattle.std.specs.List.Sorted.{IsStrictlySortedBy}
-use Rattle.std.specs.FinMap.{FinMap, get, get-empty, insert}
+use Rattle.std.specs.FinMap.{get, get-empty, insert}
 use Rattle.az_base.specs.declared.action.Action.TheVariants as action
 use Rattle.az_base.specs.declared.action.Mode.TheVariants as mode
 use Rattle.az_base.specs.declared.block_id.BlockId.{BlockId}
@@ -12,7 +12,7 @@ use Rattle.az_base.specs.Ids.{id_cmp, same_id, among}
 use Rattle.az_base.specs.OptionRanges.{usual_options}
 use Rattle.zone_model.specs.declared.call.Call.TheVariants as call
 use Rattle.zone_model.specs.declared.entry.Reply.TheVariants as reply
-use Rattle.zone_model.specs.State.{State, Block, Cycle, opening, count_of, is_nil, is_escaped, is_unescaped, with_register, with_root, with_next_serial, without}
+use Rattle.zone_model.specs.State.{State, Block, opening, count_of, is_nil, is_escaped, is_unescaped, with_register, with_root, with_next_serial, without}
 use Rattle.zone_model.specs.Reach.{Edge, IsHeld, AnchoredFor}
 use Rattle.zone_model.specs.Collection.{HasCondemned, MayCondemn, IsReached, Finalises, IsKept, Reclaims, awaits, with_action, with_finalised}
 use Rattle.zone_model.specs.Step.{Step, seen_now}
@@ -21,11 +21,11 @@ use Rattle.zone_model.specs.Maps.{total}
 use Rattle.az_base.specs.declared.options.Options.{Options}
 use Rattle.zone_model.specs.History.{Ends, Legal}
 use Rattle.zone_model.specs.Worked.{first_thread, first_block}
-use Rattle.zone_model.specs.WorkedCollections.{root_0, root_1, second_block, one_word, birth, root_set, stored, dropped, begun, condemned, finalised, settled, dead_referrer, dead_referrer_history}
+use Rattle.zone_model.specs.WorkedCollections.{root_1, second_block, one_word, birth, root_set, stored, dropped, finalised, settled, dead_referrer, dead_referrer_history}
 use Rattle.zone_model.proofs.Runs.{run_more}
 use Rattle.zone_model.proofs.Steps.{step_plain, plain_happens}
 use Rattle.zone_model.proofs.FirstHistory.{new_step, lists_one}
-use Rattle.zone_model.proofs.WorkedZones.{Listed, map_of, listed_get, listed_total, listed_insert, each_block, tested, among_one, same_block, null_word, illegal, lists_none, escaped_block, unheld, word_edge, root_right, store_right}
+use Rattle.zone_model.proofs.WorkedZones.{Listed, map_of, listed_get, listed_total, listed_insert, each_block, tested, among_one, same_block, null_word, illegal, lists_none, escaped_block, word_edge, root_right, store_right}
 use Rattle.zone_model.proofs.WorkedCycles.{cycle_of, opened, closing, begin_step, condemn_step, now, the_condemned}
 use Rattle.zone_model.proofs.WorkedGarbage.{small, rooted, in_root, root_step}
 use Rattle.zone_model.proofs.WorkedGarbage as garbage
@@ -116,7 +116,7 @@ may_condemn = record {
   closed = λ p q out h. no_edge p q;
   complete = λ q started within none. let is = escaped_block lost q started in
       each_block (λ q b. (IsReached (cycle_of lost mode.Full) q → ⊥) → IsTrue (among (second_block ∷ []) q)) (two rooted guarded) tt
-          (λ none. absurd (none (ap (λ o. is_some (option_and_then (λ (x : Block). x.since) o)) first_there, now lost mode.Full first_block root_anchors)), (λ none. refl, tt)) q is.0 is.1 none;
+      (λ none. absurd (none (ap (λ o. is_some (option_and_then (λ (x : Block). x.since) o)) first_there, now lost mode.Full first_block root_anchors)), (λ none. refl, tt)) q is.0 is.1 none;
 }
 
 condemned_cycle : HasCondemned marked 1 (second_block ∷ [])
@@ -157,11 +157,51 @@ abbrev empty_handed : State
 empty_handed = with_register (with_register referred 1 0 None) 1 1 None
 
 ends : Ends usual_options dead_referrer dead
-ends = (garbage.born, new_step small refl, (in_root, root_step, (born, birth_step, (lost, step_plain born (dropped 1) lost refl (λ id n. n) refl (_, refl, refl), (_, begin_step lost refl mode.Full,
-    (marked, condemn_step lost refl mode.Full (second_block ∷ []) may_condemn, (saved, step_plain marked (finalised second_block) saved refl (λ id n. n) refl (saved, finalises, refl),
-    (found, step_plain saved (first_thread (call.GetRoot 1 root_1) (reply.Block (Some second_block))) found refl (λ id n. n) refl (found, (refl, refl), refl), (referred, store_step,
-    (with_register referred 1 0 None, step_plain referred (dropped 0) _ refl (λ id n. n) refl (_, refl, refl), (empty_handed, step_plain _ (dropped 1) empty_handed refl (λ id n. n) refl (_, refl, refl),
-    (with_root empty_handed 0 None, null_step empty_handed 0 refl refl refl refl, (dead, null_step (with_root empty_handed 0 None) 1 refl refl refl refl, refl)))))))))))))
+ends = (
+  garbage.born,
+  new_step small refl,
+  (
+    in_root,
+    root_step,
+    (
+      born,
+      birth_step,
+      (
+        lost,
+        step_plain born (dropped 1) lost refl (λ id n. n) refl (_, refl, refl),
+        (
+          _,
+          begin_step lost refl mode.Full,
+          (
+            marked,
+            condemn_step lost refl mode.Full (second_block ∷ []) may_condemn,
+            (
+              saved,
+              step_plain marked (finalised second_block) saved refl (λ id n. n) refl (saved, finalises, refl),
+              (
+                found,
+                step_plain saved (first_thread (call.GetRoot 1 root_1) (reply.Block (Some second_block))) found refl (λ id n. n) refl (found, (refl, refl), refl),
+                (
+                  referred,
+                  store_step,
+                  (
+                    with_register referred 1 0 None,
+                    step_plain referred (dropped 0) _ refl (λ id n. n) refl (_, refl, refl),
+                    (
+                      empty_handed,
+                      step_plain _ (dropped 1) empty_handed refl (λ id n. n) refl (_, refl, refl),
+                      (with_root empty_handed 0 None, null_step empty_handed 0 refl refl refl refl, (dead, null_step (with_root empty_handed 0 None) 1 refl refl refl refl, refl)),
+                    ),
+                  ),
+                ),
+              ),
+            ),
+          ),
+        ),
+      ),
+    ),
+  ),
+)
 
 dead_first : get dead.blocks first_block ≡ Some referring
 dead_first = listed_get (two referring done) tt first_block

@@ -1,22 +1,22 @@
 -- A finaliser that keeps its block
-use Rattle.std.proofs.Common.{◌≡◌, ℕ, ◌+◌, ◌==◌, ◌&&◌, ◌||◌, nat_lt, Bool, true, false, not, cond, [], ◌∷◌, ◌++◌, List, Option, Some, None, refl, sym, ap, ◌∙◌, subst, IsTrue, inl, inr, fold, find}
+use Rattle.std.proofs.Common.{◌≡◌, ℕ, ◌+◌, ◌==◌, ◌&&◌, ◌||◌, nat_lt, Bool, true, false, not, cond, [], ◌∷◌, ◌++◌, Option, Some, None, refl, sym, ap, ◌∙◌, subst, inl, inr, fold, find}
 use Rattle.std.specs.Option.{option_map_or}
-use Rattle.std.specs.FinMap.{FinMap, get, insert}
+use Rattle.std.specs.FinMap.{get, insert}
 use Rattle.az_base.specs.declared.action.Action.TheVariants as action
 use Rattle.az_base.specs.declared.action.Mode.TheVariants as mode
 use Rattle.az_base.specs.declared.block_id.BlockId.{BlockId}
 use Rattle.az_base.specs.declared.misuse.Misuse.TheVariants as misuse
 use Rattle.az_base.specs.declared.word.Word.TheVariants as word
-use Rattle.az_base.specs.Ids.{id_cmp, same_id, among}
+use Rattle.az_base.specs.Ids.{id_cmp, same_id}
 use Rattle.az_base.specs.OptionRanges.{usual_options}
 use Rattle.zone_model.proofs.MapLaws.{total-empty}
-use Rattle.zone_model.specs.State.{State, Block, Cycle, opening, is_nil, with_register, with_root, with_next_serial, without}
+use Rattle.zone_model.specs.State.{State, Block, opening, is_nil, with_register, with_root, with_next_serial, without}
 use Rattle.zone_model.specs.Reach.{IsHeld}
 use Rattle.zone_model.specs.Collection.{HasCondemned, Finalises, IsKept, Reclaims, awaits, with_action, with_finalised}
 use Rattle.zone_model.specs.Step.{Step}
 use Rattle.zone_model.specs.History.{Ends, Legal}
 use Rattle.zone_model.specs.Worked.{first_block}
-use Rattle.zone_model.specs.WorkedCollections.{root_0, one_word, birth, dropped, condemned, finalised, settled, kept_block, finaliser_history}
+use Rattle.zone_model.specs.WorkedCollections.{root_0, one_word, birth, dropped, finalised, settled, kept_block, finaliser_history}
 use Rattle.zone_model.proofs.Runs.{run_more}
 use Rattle.zone_model.proofs.Steps.{step_plain, plain_happens}
 use Rattle.zone_model.proofs.FirstHistory.{lists_one}
@@ -78,8 +78,19 @@ finalises = (
 )
 
 ends : Ends usual_options kept_block saved
-ends = (born, birth_step, (lost, step_plain born (dropped 0) lost refl (λ id n. n) refl (_, refl, refl), (_, begin_step lost refl mode.Full,
-    (marked, condemn_it lost keeping refl refl refl refl none_held refl, (saved, step_plain marked (finalised first_block) saved refl (λ id n. n) refl (saved, finalises, refl), refl)))))
+ends = (
+  born,
+  birth_step,
+  (
+    lost,
+    step_plain born (dropped 0) lost refl (λ id n. n) refl (_, refl, refl),
+    (
+      _,
+      begin_step lost refl mode.Full,
+      (marked, condemn_it lost keeping refl refl refl refl none_held refl, (saved, step_plain marked (finalised first_block) saved refl (λ id n. n) refl (saved, finalises, refl), refl)),
+    ),
+  ),
+)
 
 still_there : get saved.blocks first_block ≡ Some kept
 still_there = listed_get ((first_block, kept) ∷ []) tt first_block

@@ -1,10 +1,10 @@
 -- Garbage of one block, and a block that is held
-use Rattle.std.proofs.Common.{◌≡◌, ℕ, ◌+◌, ◌==◌, ◌&&◌, ◌||◌, nat_lt, Bool, true, false, not, cond, [], ◌∷◌, ◌++◌, List, Option, Some, None, refl, sym, ap, ◌∙◌, subst, IsTrue, IsFalse, inl, inr, ◌⊎◌, is_some, is_none, option_and_then, find, slice_get, arith}
+use Rattle.std.proofs.Common.{◌≡◌, ℕ, ◌==◌, ◌&&◌, ◌||◌, Bool, true, false, not, cond, [], ◌∷◌, ◌++◌, Option, Some, None, refl, sym, ap, ◌∙◌, subst, IsTrue, inl, inr, is_some, is_none, option_and_then, slice_get}
 use Rattle.std.specs.Option.{option_map_or}
 use Rattle.std.specs.List.Sorted.{IsStrictlySortedBy}
 use Rattle.std.specs.declared.cmp.Ordering.TheVariants.{Less, Equal, Greater}
 use Rattle.std.specs.Ordering.{is_eq}
-use Rattle.std.specs.FinMap.{empty, get, insert}
+use Rattle.std.specs.FinMap.{empty, get}
 use Rattle.az_base.specs.declared.action.Mode.TheVariants as mode
 use Rattle.az_base.specs.declared.block_id.BlockId.{BlockId}
 use Rattle.az_base.specs.declared.word.Word.TheVariants as word
@@ -12,18 +12,17 @@ use Rattle.az_base.specs.Ids.{id_cmp, same_id, ids_total, exact_ids, among}
 use Rattle.az_base.specs.OptionRanges.{usual_options}
 use Rattle.block_layouts.specs.declared.layout.Layout.{Layout}
 use Rattle.block_layouts.specs.declared.layout.Shape.TheVariants as shape
-use Rattle.zone_model.specs.State.{State, Block, Cycle, is_nil, is_escaped, is_unescaped, moment, with_register, with_root, with_cycle, without}
+use Rattle.zone_model.specs.State.{State, Block, is_nil, is_escaped, is_unescaped, moment, with_register, with_root, without}
 use Rattle.zone_model.specs.Part.{own_block}
 use Rattle.zone_model.specs.Reach.{Edge, IsHeld, AnchoredFor}
-use Rattle.zone_model.specs.Escape.{Need, Tells, with_escaped}
-use Rattle.zone_model.specs.Collection.{MayCondemn, IsKept, Reclaims, awaits, Lists}
+use Rattle.zone_model.specs.Collection.{MayCondemn, IsKept, Reclaims}
 use Rattle.zone_model.specs.Step.{Step}
 use Rattle.zone_model.specs.History.{Ends, Legal}
-use Rattle.zone_model.specs.Worked.{first_block, new_entry}
-use Rattle.zone_model.specs.WorkedCollections.{root_0, root_set, dropped, begun, condemned, settled, rooted_block, held_block, garbage, garbage_history}
+use Rattle.zone_model.specs.Worked.{first_block}
+use Rattle.zone_model.specs.WorkedCollections.{root_0, root_set, dropped, condemned, settled, held_block, garbage, garbage_history}
 use Rattle.zone_model.proofs.Moments.{any_one}
 use Rattle.zone_model.proofs.Ones.{map_values-one, total-one, get-one}
-use Rattle.zone_model.proofs.Steps.{step_plain, plain_happens}
+use Rattle.zone_model.proofs.Steps.{step_plain}
 use Rattle.zone_model.proofs.FirstHistory.{first_zone, new_step, lists_one}
 use Rattle.zone_model.proofs.WorkedZones.{map_of, listed_get, listed_total, listed_each, each_block, tested, same_block, among_one, null_word, step_by, root_right, illegal, lists_none, one_listed, escaped_block, unheld, word_edge}
 use Rattle.zone_model.proofs.WorkedCycles.{cycle_of, opened, closing, begin_step, condemn_step, may_of}

@@ -1,23 +1,21 @@
 -- A young collection that an old block's edge stops
-use Rattle.std.proofs.Common.{◌≡◌, ℕ, ◌+◌, ◌==◌, ◌&&◌, ◌||◌, nat_lt, Bool, true, false, not, cond, [], ◌∷◌, ◌++◌, List, Option, Some, None, refl, sym, ap, ◌∙◌, subst, IsTrue, IsFalse, inl, inr, ◌⊎◌, find, is_some, is_none, option_and_then, slice_get, slice_set}
+use Rattle.std.proofs.Common.{◌≡◌, ℕ, ◌+◌, ◌==◌, ◌&&◌, nat_lt, true, false, cond, [], ◌∷◌, ◌++◌, List, Some, None, refl, sym, ap, ◌∙◌, subst, IsTrue, inl, inr, is_some, is_none, option_and_then, slice_set}
 use Rattle.std.specs.Option.{option_map_or}
 use Rattle.std.specs.List.Sorted.{IsStrictlySortedBy}
 use Rattle.std.specs.FinMap.{FinMap, get, insert}
 use Rattle.az_base.specs.declared.action.Mode.TheVariants as mode
 use Rattle.az_base.specs.declared.block_id.BlockId.{BlockId}
 use Rattle.az_base.specs.declared.misuse.Misuse.TheVariants as misuse
-use Rattle.az_base.specs.declared.options.Options.{Options}
 use Rattle.az_base.specs.declared.word.Word.TheVariants as word
 use Rattle.az_base.specs.Ids.{id_cmp, same_id, among}
 use Rattle.az_base.specs.OptionRanges.{usual_options}
-use Rattle.block_layouts.specs.declared.layout.Layout.{Layout}
 use Rattle.block_layouts.specs.declared.layout.Shape.TheVariants as shape
-use Rattle.zone_model.specs.Maps.{total, map_values}
-use Rattle.zone_model.specs.State.{State, Block, Cycle, opening, is_escaped, is_unescaped, with_register, with_root, with_next_serial, without}
+use Rattle.zone_model.specs.Maps.{map_values}
+use Rattle.zone_model.specs.State.{State, Block, opening, is_escaped, is_unescaped, with_register, with_root, with_next_serial, without}
 use Rattle.zone_model.specs.Part.{own_block}
 use Rattle.zone_model.specs.Reach.{Edge, AnchoredFor, age, in_scope}
 use Rattle.zone_model.specs.Quanta.{is_born_escaped}
-use Rattle.zone_model.specs.Misuses.{misuse_of, is_overfull}
+use Rattle.zone_model.specs.Misuses.{is_overfull}
 use Rattle.zone_model.specs.declared.entry.Entry.{Entry}
 use Rattle.zone_model.specs.Escape.{Need, Tells}
 use Rattle.zone_model.specs.Collection.{MayCondemn, IsReached, Reclaims}
@@ -26,7 +24,7 @@ use Rattle.zone_model.specs.History.{Run, Ends, Legal}
 use Rattle.zone_model.specs.Worked.{first_block}
 use Rattle.zone_model.specs.WorkedCollections.{root_0, rooted_block, second_block, birth, root_set, stored, dropped, begun, condemned, settled, nothing_collected, old_referrer, old_referrer_history}
 use Rattle.zone_model.proofs.Waiting.{run_append}
-use Rattle.zone_model.proofs.Steps.{step_plain, plain_happens}
+use Rattle.zone_model.proofs.Steps.{step_plain}
 use Rattle.zone_model.proofs.FirstHistory.{new_step}
 use Rattle.zone_model.proofs.WorkedZones.{Listed, map_of, listed_get, listed_total, listed_insert, listed_each, each_block, tested, same_block, illegal, escaped_block, step_by, root_right, store_right}
 use Rattle.zone_model.proofs.WorkedCycles.{cycle_of, opened, closing, begin_step, condemn_step, now, may_of, nothing_run, nothing_among}
@@ -73,9 +71,15 @@ not_born = ap (λ n. nat_lt 65536 (n + 1)) (listed_total _ ((first_block, rooted
 
 birth_step : Step (aged 3) (birth 1 (shape.Scanned 0) [] second_block) born
 birth_step = step_plain (aged 3) _ born refl (λ id n. n)
-    (ap (λ b. cond (b && is_overfull (aged 3) 1) (Some misuse.ZoneFull) None) not_born)
-    (born, (refl, sym (ap (λ b. with_register (with_next_serial (record (aged 3) { blocks = insert (map_of ((first_block, rooted) ∷ [])) second_block (record young { since = cond b (Some 3) None }) }) 1) 1 1 (Some second_block)) not_born
-        ∙ ap (λ m. record born { blocks = m }) (listed_insert ((first_block, rooted) ∷ []) second_block young tt tt))), refl)
+    (ap (λ b. cond (b && is_overfull (aged 3) 1) (Some misuse.ZoneFull) None) not_born) (
+      born,
+      (
+        refl,
+        sym (ap (λ b. with_register (with_next_serial (record (aged 3) { blocks = insert (map_of ((first_block, rooted) ∷ [])) second_block (record young { since = cond b (Some 3) None }) }) 1) 1 1 (Some second_block)) not_born
+            ∙ ap (λ m. record born { blocks = m }) (listed_insert ((first_block, rooted) ∷ []) second_block young tt tt)),
+      ),
+      refl,
+    )
 
 old_there : get born.blocks first_block ≡ Some rooted
 old_there = listed_get (two rooted young) tt first_block
@@ -127,8 +131,19 @@ abbrev young_zone : State
 young_zone = opened dead mode.Young
 
 last_run : Run (aged 3) last_lines young_zone
-last_run = (born, birth_step, (referred, store_step, (with_register referred 1 0 None, step_plain referred (dropped 0) _ refl (λ id n. n) refl (_, refl, refl),
-    (empty_handed, step_plain _ (dropped 1) empty_handed refl (λ id n. n) refl (_, refl, refl), (dead, null_step, (young_zone, begin_step dead refl mode.Young, refl))))))
+last_run = (
+  born,
+  birth_step,
+  (
+    referred,
+    store_step,
+    (
+      with_register referred 1 0 None,
+      step_plain referred (dropped 0) _ refl (λ id n. n) refl (_, refl, refl),
+      (empty_handed, step_plain _ (dropped 1) empty_handed refl (λ id n. n) refl (_, refl, refl), (dead, null_step, (young_zone, begin_step dead refl mode.Young, refl))),
+    ),
+  ),
+)
 
 -- a collection of nothing before these
 aged_run : (n : ℕ) (es : List Entry) → Run (aged (n + 1)) es young_zone → Run (aged n) (nothing_collected ++ es) young_zone
@@ -155,7 +170,7 @@ may_none = record {
   closed = λ p q out h. cc (h);
   complete = λ q started within none. let is = escaped_block dead q started in
       each_block (λ q b. IsTrue (in_scope mode.Young dead q) → (IsReached (cycle_of dead mode.Young) q → ⊥) → IsTrue (among [] q)) (two referring escaped) tt
-          ((λ within none. absurd (not_young within)), ((λ within none. absurd (none (ap (λ o. is_some (option_and_then (λ (x : Block). x.since) o)) dead_second, now dead mode.Young second_block young_anchored))), tt)) q is.0 is.1 within none;
+      ((λ within none. absurd (not_young within)), ((λ within none. absurd (none (ap (λ o. is_some (option_and_then (λ (x : Block). x.since) o)) dead_second, now dead mode.Young second_block young_anchored))), tt)) q is.0 is.1 within none;
 }
   where
     not_young : IsTrue (in_scope mode.Young dead first_block) → ⊥
@@ -178,8 +193,11 @@ reclaims_none = record {
 }
 
 pub leaving_is_legal : Legal usual_options old_referrer_history
-leaving_is_legal = (after, run_append (opening usual_options) old_referrer (opened dead mode.Young) (condemned [] ∷ settled [] [] ∷ []) after ends
-    (marked, condemn_step dead refl mode.Young [] may_none, (after, step_plain marked (settled [] []) after refl (λ id n. n) refl (after, reclaims_none, refl), refl)))
+leaving_is_legal = (
+  after,
+  run_append (opening usual_options) old_referrer (opened dead mode.Young) (condemned [] ∷ settled [] [] ∷ []) after ends
+      (marked, condemn_step dead refl mode.Young [] may_none, (after, step_plain marked (settled [] []) after refl (λ id n. n) refl (after, reclaims_none, refl), refl)),
+)
 
 pub condemning_is_illegal : Legal usual_options (old_referrer ++ condemned (second_block ∷ []) ∷ []) → ⊥
 condemning_is_illegal = illegal usual_options old_referrer (condemned (second_block ∷ [])) (opened dead mode.Young) ends

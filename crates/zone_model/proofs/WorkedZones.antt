@@ -1,36 +1,32 @@
 -- Zones whose blocks stand in a list, and the steps that lead from one to the next
-use Rattle.std.proofs.Common.{◌≡◌, ℕ, ◌+◌, ◌==◌, nat_lt, nat_le, Bool, true, false, cond, ◌&&◌, ◌||◌, T, zero, suc, [], ◌∷◌, ◌++◌, List, Option, Some, None, MatchOption, refl, sym, ap, ◌∙◌, subst, IsTrue, IsFalse, is_some, is_none, slice_get, option_and_then, unwrap_or, ◌⊎◌, inl, inr, arith}
+use Rattle.std.proofs.Common.{◌≡◌, ℕ, ◌+◌, nat_lt, nat_le, Bool, true, false, cond, ◌||◌, T, zero, suc, [], ◌∷◌, ◌++◌, List, Option, Some, None, MatchOption, refl, sym, ap, ◌∙◌, subst, IsTrue, is_some, slice_get, option_and_then, unwrap_or, inl, inr, arith}
 use Rattle.std.specs.Option.{option_map, option_map_or}
-use Rattle.std.specs.declared.cmp.Ordering.{Ordering}
 use Rattle.std.specs.declared.cmp.Ordering.TheVariants.{Less, Equal, Greater}
 use Rattle.std.specs.Ordering.{is_eq}
 use Rattle.std.specs.List.Sorted.{IsStrictlySortedBy}
-use Rattle.std.specs.FinMap.{FinMap, empty, entries, entries_sorted, entries-insert, entries-from_sorted, from_sorted, get, get-empty, get-insert, get-from_sorted, insert, find, put, is_sorted, same_entries_map, same_map}
+use Rattle.std.specs.FinMap.{FinMap, empty, entries-insert, entries-from_sorted, from_sorted, get, get-empty, get-insert, get-from_sorted, insert, find, put, is_sorted, same_entries_map, same_map}
 use Rattle.az_base.specs.declared.block_id.BlockId.{BlockId}
 use Rattle.az_base.specs.declared.misuse.Misuse.{Misuse}
 use Rattle.az_base.specs.declared.misuse.Misuse.TheVariants as misuse
 use Rattle.az_base.specs.declared.word.Class.TheVariants as class
-use Rattle.az_base.specs.declared.word.Word.{Word}
 use Rattle.az_base.specs.declared.word.Word.TheVariants as word
 use Rattle.az_base.specs.Ids.{id_cmp, same_id, ids_total, exact_ids, among}
 use Rattle.az_base.specs.declared.options.Options.{Options}
 use Rattle.az_base.specs.OptionRanges.{usual_options}
 use Rattle.block_layouts.specs.Layouts.{len_of, class_at}
-use Rattle.zone_model.specs.declared.call.Call.{Call}
 use Rattle.zone_model.specs.declared.call.Call.TheVariants as call
-use Rattle.zone_model.specs.declared.entry.Reply.{Reply}
 use Rattle.zone_model.specs.declared.entry.Reply.TheVariants as reply
 use Rattle.zone_model.specs.declared.entry.Entry.{Entry}
 use Rattle.zone_model.specs.Maps.{total, list_total, each_value, map_values}
 use Rattle.zone_model.proofs.MapLaws.{sorted-each, find-each, get-map_values}
 use Rattle.zone_model.specs.Quanta.{used_quanta, quanta_needed}
 use Rattle.zone_model.specs.Misuses.{misuse_of}
-use Rattle.zone_model.specs.State.{State, Block, Cycle, opening, is_escaped, count_of}
+use Rattle.zone_model.specs.State.{State, Block, opening, is_escaped, count_of}
 use Rattle.zone_model.specs.Reach.{Edge, WordEdge, IsHeld}
 use Rattle.az_base.specs.Places.{pair_cmp}
 use Rattle.zone_model.specs.Escape.{Need, Tells, with_escaped}
 use Rattle.zone_model.specs.Step.{Step, Happens}
-use Rattle.zone_model.specs.History.{Run, Ends, Legal}
+use Rattle.zone_model.specs.History.{Ends, Legal}
 use Rattle.zone_model.specs.Collection.{Lists}
 use Rattle.zone_model.proofs.Determined.{run_determined}
 use Rattle.zone_model.proofs.WeakRuns.{run_parts}

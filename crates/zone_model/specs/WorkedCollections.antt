@@ -1,5 +1,5 @@
 -- Worked collections: histories of a busy zone, of garbage, of a finaliser that keeps its block, of a dead block outside the condemned set, and of an old block
-use Rattle.std.specs.Prelude.{ℕ, List, [], ◌∷◌, ◌++◌, Some, None}
+use Rattle.std.specs.Prelude.{ℕ, List, [], ◌∷◌, ◌++◌, Some}
 use Rattle.az_base.specs.declared.action.Action.{Action}
 use Rattle.az_base.specs.declared.action.Action.TheVariants as action
 use Rattle.az_base.specs.declared.action.Mode.{Mode}
