@@ -13,7 +13,7 @@ use Rattle.zone_model.specs.Quanta.{used_quanta, quanta_needed}
 use Rattle.zone_model.specs.Misuses.{is_overfull}
 use Rattle.zone_model.specs.Reach.{Edge, WordEdge, Path}
 use Rattle.shared_heap.specs.Shared.{Shared, used_by}
-use Rattle.shared_heap.specs.Stands.{Sound, escaped_view}
+use Rattle.shared_heap.specs.Stands.{EscapedClosed, escaped_view}
 use Rattle.shared_heap.proofs.Sums.{used_stands, full_stands, not_full}
 use Rattle.play_core.specs.declared.zone.LocalBlock.{LocalBlock}
 use Rattle.play_core.specs.declared.zone.SoloZone.{SoloZone}
@@ -77,11 +77,8 @@ not_own_escaped p z id s there none = elim (escaped_or_own z id there) [
 ]
 
 -- what the heap's calls rest on
-pub sound_heap : (t : ℕ) (z : State) → IsSound t z → Sound z
-sound_heap t z s = record {
-  edges = λ a b out e. elim e [ inl by_word ↦ s.shut a b by_word out | inr by_assoc ↦ s.values a by_assoc.0 b by_assoc.1 ];
-  roots = s.roots;
-}
+pub sound_heap : (t : ℕ) (z : State) → IsSound t z → EscapedClosed z
+sound_heap t z s a b out e = elim e [ inl by_word ↦ s.shut a b by_word out | inr by_assoc ↦ s.values a by_assoc.0 b by_assoc.1 ]
 
 -- the references of an unescaped block are its edges
 refers_edge : (p : SoloZone) (z : State) (a b : BlockId) → Represents p z → Refers p.blocks a b → WordEdge z.blocks a b

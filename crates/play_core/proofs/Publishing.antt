@@ -18,7 +18,7 @@ use Rattle.zone_model.specs.Misuses.{misuse_of, is_overfull}
 use Rattle.zone_model.specs.Quanta.{quanta_needed}
 use Rattle.zone_model.specs.Step.{Step}
 use Rattle.shared_heap.specs.Shared.{Shared}
-use Rattle.shared_heap.specs.Stored.{Kept}
+use Rattle.shared_heap.specs.Stored.{HeapBlock}
 use Rattle.shared_heap.specs.Stands.{Stands, kept_of, escaped_view}
 use Rattle.shared_heap.specs.Steps as shared
 use Rattle.shared_heap.specs.Words.{word_misuse, class_misuse, reply_or}
@@ -140,14 +140,14 @@ pub misuse_still : (h g : Shared) (z : State) (need : BlockId → Bool) (a : Opt
 misuse_still h g z need None at k s t out = refl
 misuse_still h g z need (Some id) at k s t out = ap (class_misuse k) (go out)
   where
-    one : (b : Block) (v : Option ℕ) → b.since ≡ v → (t : Bool) → IsTrue (is_some b.since) → option_and_then (λ (e : Kept). class_at e.layout at) (kept_of z.reclaims (escape_at z t b)) ≡ option_and_then (λ (e : Kept). class_at e.layout at) (kept_of z.reclaims b)
+    one : (b : Block) (v : Option ℕ) → b.since ≡ v → (t : Bool) → IsTrue (is_some b.since) → option_and_then (λ (e : HeapBlock). class_at e.layout at) (kept_of z.reclaims (escape_at z t b)) ≡ option_and_then (λ (e : HeapBlock). class_at e.layout at) (kept_of z.reclaims b)
     one b None e t h = let no = rw e at h in cc (no)
     one b (Some n) e true h = rw e refl
     one b (Some n) e false h = refl
 
-    same : (o : Option Block) → IsTrue (is_some (option_and_then (λ (b : Block). b.since) o)) → option_and_then (λ (e : Kept). class_at e.layout at) (escaped_view z.reclaims (option_map (escape_at z (need id)) o)) ≡ option_and_then (λ (e : Kept). class_at e.layout at) (escaped_view z.reclaims o)
+    same : (o : Option Block) → IsTrue (is_some (option_and_then (λ (b : Block). b.since) o)) → option_and_then (λ (e : HeapBlock). class_at e.layout at) (escaped_view z.reclaims (option_map (escape_at z (need id)) o)) ≡ option_and_then (λ (e : HeapBlock). class_at e.layout at) (escaped_view z.reclaims o)
     same None h = cc
     same (Some b) h = one b b.since refl (need id) h
 
-    go : IsTrue (is_some (option_and_then (λ (b : Block). b.since) (get z.blocks id))) → option_and_then (λ (e : Kept). class_at e.layout at) (get g.blocks id) ≡ option_and_then (λ (e : Kept). class_at e.layout at) (get h.blocks id)
-    go out = ap (option_and_then (λ (e : Kept). class_at e.layout at)) (t.blocks id ∙ ap (escaped_view z.reclaims) (got_escaped z need id)) ∙ same (get z.blocks id) out ∙ sym (ap (option_and_then (λ (e : Kept). class_at e.layout at)) (s.blocks id))
+    go : IsTrue (is_some (option_and_then (λ (b : Block). b.since) (get z.blocks id))) → option_and_then (λ (e : HeapBlock). class_at e.layout at) (get g.blocks id) ≡ option_and_then (λ (e : HeapBlock). class_at e.layout at) (get h.blocks id)
+    go out = ap (option_and_then (λ (e : HeapBlock). class_at e.layout at)) (t.blocks id ∙ ap (escaped_view z.reclaims) (got_escaped z need id)) ∙ same (get z.blocks id) out ∙ sym (ap (option_and_then (λ (e : HeapBlock). class_at e.layout at)) (s.blocks id))

@@ -16,7 +16,8 @@ use Rattle.zone_model.specs.Misuses.{misuse_of}
 use Rattle.zone_model.specs.Part.{part_of}
 use Rattle.zone_model.specs.State.{State, Block, is_escaped, with_register}
 use Rattle.zone_model.specs.Step.{Step, Happens, seen_now}
-use Rattle.zone_model.proofs.Steps.{none_escaped, tells_none}
+use Rattle.zone_model.proofs.LocalCalls.{plain_refused}
+use Rattle.zone_model.proofs.Steps.{plain_happens}
 use Rattle.shared_heap.specs.Shared.{Shared, held}
 use Rattle.shared_heap.specs.Stands.{Stands, kept_of, escaped_view}
 use Rattle.shared_heap.specs.Steps.{names}
@@ -88,10 +89,11 @@ here_escaped h z q s out = ap is_some (s.blocks q) ∙ shown (get z.blocks q) ou
 -- what a step is that makes nothing escape
 pub outcome : (z : State) (e : Entry) (after : State) → ((id : BlockId) → Need z e.thread e.call id → ⊥) → Step z e after
     → MatchOption (misuse_of z e.thread e.call (λ _. false)) (Happens z e.thread e.call e.reply after) (λ m. (e.reply ≡ reply.Misuse m) × (after ≡ z))
-outcome z e after none step =
-    let empty_need : step.need ≡ (λ _. false) = tells_none step.need (Need z e.thread e.call) step.needed none in
-    let does = subst (λ (n : BlockId → Bool). MatchOption (misuse_of z e.thread e.call n) (Happens (with_escaped z n) e.thread e.call e.reply after) (λ m. (e.reply ≡ reply.Misuse m) × (after ≡ z))) empty_need step.does in
-    subst (λ y. MatchOption (misuse_of z e.thread e.call (λ _. false)) (Happens y e.thread e.call e.reply after) (λ m. (e.reply ≡ reply.Misuse m) × (after ≡ z))) (none_escaped z) does
+outcome z e after none step = go (misuse_of z e.thread e.call (λ _. false)) refl
+  where
+    go : (m : Option Misuse) → misuse_of z e.thread e.call (λ _. false) ≡ m → MatchOption m (Happens z e.thread e.call e.reply after) (λ m. (e.reply ≡ reply.Misuse m) × (after ≡ z))
+    go None right = plain_happens z e after step none right
+    go (Some m) wrong = plain_refused z e after m step none wrong
 
 -- a step of a call that reads: a misuse changes nothing, and else a register holds what is read
 abbrev Read : State → ℕ → ℕ → Reply → State → Type 0

@@ -17,7 +17,7 @@ use Rattle.zone_model.specs.Step.{seen_now}
 use Rattle.zone_model.proofs.Steps.{step_plain}
 use Rattle.shared_heap.specs.Assocs.{associated}
 use Rattle.shared_heap.specs.Shared.{Shared, used_by}
-use Rattle.shared_heap.specs.Stands.{Stands, Sound}
+use Rattle.shared_heap.specs.Stands.{Stands, EscapedClosed}
 use Rattle.shared_heap.specs.Steps.{Runs, Stepped}
 use Rattle.shared_heap.proofs.Standing.{register_stands, seen_stands}
 use Rattle.shared_heap.proofs.Stepping.{misused, none_escape}
@@ -44,7 +44,7 @@ assoc_stands h z object key v s = record {
 assoc_is : (h : Shared) (z : State) (object : BlockId) (key : ℕ) → Stands h z → assoc_of z (Some object) key ≡ get h.assocs (object, key)
 assoc_is h z object key s = ap (λ m. get m (object, key)) s.assocs
 
-module _ (h : Shared) (z : State) (t reg from : ℕ) (key : Key) (a v : Option BlockId) (runs : Runs h z t) (sound : Sound z) (given : IfSome a (λ b. IsSome (get h.blocks b))) (there : IfSome v (λ b. IsSome (get h.blocks b)))
+module _ (h : Shared) (z : State) (t reg from : ℕ) (key : Key) (a v : Option BlockId) (runs : Runs h z t) (sound : EscapedClosed z) (given : IfSome a (λ b. IsSome (get h.blocks b))) (there : IfSome v (λ b. IsSome (get h.blocks b)))
     (holds : z.registers t reg ≡ a) (has_value : z.registers t from ≡ v) where
   set_needs : (id : BlockId) → Need z t (call.SetAssoc reg key from) id → ⊥
   set_needs id (inl n) = none_escape h z a runs.stands sound given id (subst (λ a. EscOf z a id) holds n)

@@ -24,12 +24,12 @@ use Rattle.zone_model.proofs.PartChanges.{edited_others}
 use Rattle.shared_heap.specs.Shared.{Shared, held}
 use Rattle.shared_heap.specs.Holding.{holds_of, HoldsAgree, IsShared, LeavesParts}
 use Rattle.shared_heap.proofs.Agreeing.{outcome}
-use Rattle.shared_heap.proofs.Shut.{shut}
+use Rattle.shared_heap.proofs.Shut.{closed}
 
 -- from what has escaped nothing escapes any more
 leads_out : (z : State) → Sound z → (a b : BlockId) (steps : List BlockId) → IsTrue (is_escaped z a) → Path (Edge z) a steps b → IsTrue (is_escaped z b)
 leads_out z s a b [] out p = subst (λ x. IsTrue (is_escaped z x)) p out
-leads_out z s a b (c ∷ steps) out p = leads_out z s c b steps (shut z s a c out p.0) p.1
+leads_out z s a b (c ∷ steps) out p = leads_out z s c b steps (closed z s a c out p.0) p.1
 
 nothing_escapes : (z : State) → Sound z → (v : Option BlockId) → IsShared z v → (id : BlockId) → EscOf z v id → ⊥
 nothing_escapes z s None shared id e = e

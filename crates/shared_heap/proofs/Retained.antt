@@ -27,7 +27,7 @@ use Rattle.zone_model.proofs.Steps.{step_plain}
 use Rattle.shared_heap.specs.Ready.{Ready}
 use Rattle.shared_heap.specs.Retained.{count_of, count_at, retain_misuse, release_misuse, count_misuse, take_misuse, recounted, after_retain, after_release}
 use Rattle.shared_heap.specs.Shared.{Shared, used_by}
-use Rattle.shared_heap.specs.Stands.{Stands, Sound}
+use Rattle.shared_heap.specs.Stands.{Stands, EscapedClosed}
 use Rattle.shared_heap.specs.Steps.{Runs, Stepped}
 use Rattle.shared_heap.specs.Words.{reply_or}
 use Rattle.shared_heap.proofs.Standing.{seen_stands, register_stands}
@@ -150,7 +150,7 @@ module _ (h new : Shared) (z : State) (t reg : ℕ) (runs : Runs h z t) where
       go false e f =
           subst (λ r. Stepped new z t (call.Release reg) r) (sym f) (release_step id (count_of h id - 1) holds (ap (λ b. cond b (Some misuse.OverRelease) None) e) (one_less (count_of h id) e) (is ∙ ap (after_release h (Some id)) f))
 
-  module _ (sound : Sound z) (fits : used_by h.blocks ≤ h.options.heap_quanta) where
+  module _ (sound : EscapedClosed z) (fits : used_by h.blocks ≤ h.options.heap_quanta) where
     retain_needs : (a : Option BlockId) → IfSome a (λ b. IsSome (get h.blocks b)) → z.registers t reg ≡ a → (id : BlockId) → Need z t (call.Retain reg) id → ⊥
     retain_needs a there holds id n = none_escape h z a runs.stands sound there id (subst (λ v. EscOf z v id) holds n)
 

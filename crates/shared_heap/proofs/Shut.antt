@@ -5,13 +5,13 @@ use Rattle.az_base.specs.declared.block_id.BlockId.{BlockId}
 use Rattle.az_base.specs.Ids.{id_of}
 use Rattle.zone_model.specs.State.{State, Block, is_escaped}
 use Rattle.zone_model.specs.Reach.{Edge}
-use Rattle.zone_model.specs.Sound as zone
+use Rattle.zone_model.specs.Sound.{Sound}
 use Rattle.zone_model.proofs.Blocks.{not_both}
-use Rattle.shared_heap.specs.Stands.{Sound}
+use Rattle.shared_heap.specs.Stands.{EscapedClosed}
 use Rattle.shared_heap.specs.Holding.{HoldsItsOwn}
 
 -- the next id of a thread is no block's
-pub next_unused : (z : State) (t : ℕ) → zone.Sound z → get z.blocks (id_of t (z.serials t)) ≡ None
+pub next_unused : (z : State) (t : ℕ) → Sound z → get z.blocks (id_of t (z.serials t)) ≡ None
 next_unused z t s = go (get z.blocks (id_of t (z.serials t))) refl
   where
     go : (o : Option Block) → get z.blocks (id_of t (z.serials t)) ≡ o → o ≡ None
@@ -19,15 +19,12 @@ next_unused z t s = go (get z.blocks (id_of t (z.serials t))) refl
     go (Some b) e = let below = s.numbers.serials (id_of t (z.serials t)) (ap is_some e) in absurd (omega (arith, below))
 
 -- what has escaped leads to what has escaped alone
-pub shut : (z : State) → zone.Sound z → (a b : BlockId) → IsTrue (is_escaped z a) → Edge z a b → IsTrue (is_escaped z b)
-shut z s a b out (inl word) = elim (s.names.words a b word) [ inl escaped ↦ escaped | inr own ↦ absurd (not_both _ out own.0) ]
-shut z s a b out (inr value) = s.names.values a value.0 b value.1
-
-pub sound_for_heaps : (z : State) → zone.Sound z → Sound z
-sound_for_heaps z s = record { edges = shut z s; roots = s.names.roots }
+pub closed : (z : State) → Sound z → EscapedClosed z
+closed z s a b out (inl word) = elim (s.names.words a b word) [ inl escaped ↦ escaped | inr own ↦ absurd (not_both _ out own.0) ]
+closed z s a b out (inr value) = s.names.values a value.0 b value.1
 
 -- what a thread holds in a sound state is its own or has escaped
-pub holds_its_own : (z : State) → zone.Sound z → HoldsItsOwn z
+pub holds_its_own : (z : State) → Sound z → HoldsItsOwn z
 holds_its_own z s = record {
   registers = s.names.registers;
   words = λ a b inside word. elim (s.names.words a b word) [ inl escaped ↦ inl escaped | inr own ↦ inr own.1 ];

@@ -20,7 +20,7 @@ use Rattle.zone_model.specs.Effect.{new_block, with_new}
 use Rattle.zone_model.specs.Quanta.{is_born_escaped}
 use Rattle.zone_model.specs.Step.{seen_now, with_moment}
 use Rattle.shared_heap.specs.Holds.{Holds}
-use Rattle.shared_heap.specs.Stored.{Kept}
+use Rattle.shared_heap.specs.Stored.{HeapBlock}
 use Rattle.shared_heap.specs.Shared.{Shared, new_heap, rooted, written, newly, with_birth, admitted, holding_more}
 use Rattle.shared_heap.specs.Stands.{Stands, kept_of, escaped_view}
 use Rattle.shared_heap.specs.Steps.{IsUnescaped}
@@ -115,7 +115,7 @@ word_stands h z id at w s = record {
   cycle = s.cycle;
 }
   where
-    change : Kept → Kept
+    change : HeapBlock → HeapBlock
     change k = record k { words = slice_set k.words at w }
 
     alter : Block → Block

@@ -29,9 +29,9 @@ use Rattle.zone_model.specs.Escape.{Need, EscOf}
 use Rattle.zone_model.specs.Misuses.{Named, words_named, null_block, no_word, wrong_class, first_of, misuse_of}
 use Rattle.zone_model.specs.Step.{seen_now}
 use Rattle.zone_model.proofs.Steps.{step_plain, step_misuse}
-use Rattle.shared_heap.specs.Stored.{Kept}
+use Rattle.shared_heap.specs.Stored.{HeapBlock}
 use Rattle.shared_heap.specs.Shared.{Shared, used_by, written, rooted, stats_in}
-use Rattle.shared_heap.specs.Stands.{Stands, Sound, kept_of, escaped_view}
+use Rattle.shared_heap.specs.Stands.{Stands, EscapedClosed, kept_of, escaped_view}
 use Rattle.shared_heap.specs.Steps.{Runs, Stepped, NeedsWord, first_three, after_write}
 use Rattle.shared_heap.specs.Words.{word_misuse, class_misuse, class_in, is_past, is_other, reply_or}
 use Rattle.shared_heap.specs.Words as own
@@ -39,14 +39,14 @@ use Rattle.shared_heap.proofs.Sums.{not_full, used_stands, number_stands}
 use Rattle.shared_heap.proofs.Standing.{word_stands, root_stands, seen_stands, register_stands}
 
 -- the block of the state that the heap has
-pub record Has (z : State) (id : BlockId) (k : Kept) : Type 0 where
+pub record Has (z : State) (id : BlockId) (k : HeapBlock) : Type 0 where
   pub block : Block
   pub here : get z.blocks id ≡ Some block
   pub since : IsTrue (is_some block.since)
   pub layout : block.layout ≡ k.layout
   pub words : block.words ≡ k.words
 
-pub has : (h : Shared) (z : State) (id : BlockId) (k : Kept) → Stands h z → get h.blocks id ≡ Some k → Has z id k
+pub has : (h : Shared) (z : State) (id : BlockId) (k : HeapBlock) → Stands h z → get h.blocks id ≡ Some k → Has z id k
 has h z id k s is = go (get z.blocks id) refl (sym (s.blocks id) ∙ is)
   where
     escaped : (b : Block) → get z.blocks id ≡ Some b → (o : Option ℕ) → b.since ≡ o → kept_of z.reclaims b ≡ Some k → Has z id k
@@ -55,8 +55,8 @@ has h z id k s is = go (get z.blocks id) refl (sym (s.blocks id) ∙ is)
       block = b;
       here = e;
       since = ap is_some f;
-      layout = ap (λ (o : Option Kept). elim o [ None ↦ b.layout | Some k ↦ k.layout ]) kept;
-      words = ap (λ (o : Option Kept). elim o [ None ↦ b.words | Some k ↦ k.words ]) kept;
+      layout = ap (λ (o : Option HeapBlock). elim o [ None ↦ b.layout | Some k ↦ k.layout ]) kept;
+      words = ap (λ (o : Option HeapBlock). elim o [ None ↦ b.words | Some k ↦ k.words ]) kept;
     }
 
     go : (o : Option Block) → get z.blocks id ≡ o → escaped_view z.reclaims o ≡ Some k → Has z id k
@@ -67,7 +67,7 @@ has h z id k s is = go (get z.blocks id) refl (sym (s.blocks id) ∙ is)
 pub escaped_here : (h : Shared) (z : State) (id : BlockId) → Stands h z → IsSome (get h.blocks id) → IsTrue (is_escaped z id)
 escaped_here h z id s there = go (get h.blocks id) refl there
   where
-    go : (o : Option Kept) → get h.blocks id ≡ o → IsSome o → IsTrue (is_escaped z id)
+    go : (o : Option HeapBlock) → get h.blocks id ≡ o → IsSome o → IsTrue (is_escaped z id)
     go None e i = cc
     go (Some k) e i = let b = has h z id k s e in ap (λ o. is_some (option_and_then (λ (b : Block). b.since) o)) b.here ∙ b.since
 
@@ -99,7 +99,7 @@ pub three : (h : Shared) (z : State) (t : ℕ) (c : Call) (reg at : ℕ) (class 
 three h z t c reg at class None s given holds needs = rw (needs.holder, holds) refl
 three h z t c reg at class (Some b) s given holds needs = go (get h.blocks b) refl given
   where
-    go : (o : Option Kept) → get h.blocks b ≡ o → IsSome o → first_three z t c ≡ class_misuse class (option_and_then (λ k. class_at k.layout at) (get h.blocks b))
+    go : (o : Option HeapBlock) → get h.blocks b ≡ o → IsSome o → first_three z t c ≡ class_misuse class (option_and_then (λ k. class_at k.layout at) (get h.blocks b))
     go None e i = cc
     go (Some k) e i =
         let it = has h z b k s e in
@@ -111,7 +111,7 @@ pub same_word : (h : Shared) (z : State) (a : Option BlockId) (at : ℕ) → Sta
 same_word h z None at s given = refl
 same_word h z (Some b) at s given = go (get h.blocks b) refl given
   where
-    go : (o : Option Kept) → get h.blocks b ≡ o → IsSome o → option_and_then (λ (b : Block). slice_get b.words at) (get z.blocks b) ≡ option_and_then (λ (k : Kept). slice_get k.words at) (get h.blocks b)
+    go : (o : Option HeapBlock) → get h.blocks b ≡ o → IsSome o → option_and_then (λ (b : Block). slice_get b.words at) (get z.blocks b) ≡ option_and_then (λ (k : HeapBlock). slice_get k.words at) (get h.blocks b)
     go None e i = cc
     go (Some k) e i = let it = has h z b k s e in rw (it.here, e) (ap (λ ws. slice_get ws at) it.words)
 
@@ -167,9 +167,9 @@ module _ (h new : Shared) (z : State) (t reg at : ℕ) (a : Option BlockId) (run
           subst (λ r. Stepped new z t (call.Put reg at n) r) (sym f) (subst (λ k. Stepped k z t (call.Put reg at n) (reply.Misuse m)) (sym same) (misused h z t (call.Put reg at n) m runs (λ id n. n) (put_misuse n ∙ e)))
 
 -- in a sound state nothing escapes where an escaped block is stored
-path_escaped : (z : State) → Sound z → (a b : BlockId) (steps : List BlockId) → IsTrue (is_escaped z a) → Path (Edge z) a steps b → IsTrue (is_escaped z b)
+path_escaped : (z : State) → EscapedClosed z → (a b : BlockId) (steps : List BlockId) → IsTrue (is_escaped z a) → Path (Edge z) a steps b → IsTrue (is_escaped z b)
 path_escaped z s a b [] e p = subst (λ x. IsTrue (is_escaped z x)) p e
-path_escaped z s a b (c ∷ steps) e p = path_escaped z s c b steps (s.edges a c e p.0) p.1
+path_escaped z s a b (c ∷ steps) e p = path_escaped z s c b steps (s a c e p.0) p.1
 
 one_only : (z : State) (b : BlockId) → IsTrue (is_escaped z b) → IsTrue (is_unescaped z b) → ⊥
 one_only z b e u = go (get z.blocks b) refl
@@ -182,11 +182,11 @@ one_only z b e u = go (get z.blocks b) refl
     go None f = let no : is_escaped z b ≡ false = ap (λ o. is_some (option_and_then (λ (b : Block). b.since) o)) f in cc
     go (Some block) f = since block block.since refl f
 
-pub none_escape : (h : Shared) (z : State) (v : Option BlockId) → Stands h z → Sound z → IfSome v (λ b. IsSome (get h.blocks b)) → (id : BlockId) → EscOf z v id → ⊥
+pub none_escape : (h : Shared) (z : State) (v : Option BlockId) → Stands h z → EscapedClosed z → IfSome v (λ b. IsSome (get h.blocks b)) → (id : BlockId) → EscOf z v id → ⊥
 none_escape h z None s sound there id e = e
 none_escape h z (Some b) s sound there id e = one_only z id (path_escaped z sound b id e.1.0 (escaped_here h z b s there) e.1.1) e.0
 
-module _ (h new : Shared) (z : State) (t reg from at : ℕ) (a v : Option BlockId) (runs : Runs h z t) (sound : Sound z) (given : IfSome a (λ b. IsSome (get h.blocks b))) (there : IfSome v (λ b. IsSome (get h.blocks b)))
+module _ (h new : Shared) (z : State) (t reg from at : ℕ) (a v : Option BlockId) (runs : Runs h z t) (sound : EscapedClosed z) (given : IfSome a (λ b. IsSome (get h.blocks b))) (there : IfSome v (λ b. IsSome (get h.blocks b)))
     (fits : used_by h.blocks ≤ h.options.heap_quanta) (holds : z.registers t reg ≡ a) (has_value : z.registers t from ≡ v) where
   pub store_misuse : misuse_of z t (call.Store reg at from) (λ _. false) ≡ word_misuse h a at class.Strong
   store_misuse =
@@ -212,7 +212,7 @@ module _ (h new : Shared) (z : State) (t reg from at : ℕ) (a v : Option BlockI
           subst (λ r. Stepped new z t (call.Store reg at from) r) (sym f) (subst (λ k. Stepped k z t (call.Store reg at from) (reply.Misuse m)) (sym same) (misused h z t (call.Store reg at from) m runs store_needs (store_misuse ∙ e)))
 
 -- the roots
-pub set_root_step : (h new : Shared) (z : State) (t from g : ℕ) (v : Option BlockId) → Runs h z t → Sound z → IfSome v (λ b. IsSome (get h.blocks b)) → used_by h.blocks ≤ h.options.heap_quanta → length h.roots ≡ 256 → g < 256
+pub set_root_step : (h new : Shared) (z : State) (t from g : ℕ) (v : Option BlockId) → Runs h z t → EscapedClosed z → IfSome v (λ b. IsSome (get h.blocks b)) → used_by h.blocks ≤ h.options.heap_quanta → length h.roots ≡ 256 → g < 256
     → z.registers t from ≡ v → new ≡ rooted h g v → Stepped new z t (call.SetRoot (record { 0 = g }) from) reply.Done
 set_root_step h new z t from g v runs sound there fits all l has_value is =
     let mid = with_root z g (z.registers t from) in

@@ -14,7 +14,7 @@ use Rattle.zone_model.specs.Quanta.{used_quanta, quanta_needed}
 use Rattle.zone_model.specs.Stats.{stats_of}
 use Rattle.zone_model.specs.Misuses.{is_overfull}
 use Rattle.zone_model.proofs.Totals.{total_added}
-use Rattle.shared_heap.specs.Stored.{Kept}
+use Rattle.shared_heap.specs.Stored.{HeapBlock}
 use Rattle.shared_heap.specs.Shared.{Shared, used_by, number_of}
 use Rattle.shared_heap.specs.Stands.{Stands, kept_of}
 use Rattle.shared_heap.proofs.Picks.{total-picked, total-zero}
@@ -24,28 +24,28 @@ same_sum f g m is = ap (λ (h : _ → _ → ℕ). total h m) (λ i k x. is k x i
 
 pub used_stands : (h : Shared) (z : State) → Stands h z → used_quanta z ≡ used_by h.blocks
 used_stands h z s =
-    sym (total-picked id_cmp (λ id (k : Kept). quanta (len_of k.layout)) ids_total exact_ids (λ id b. kept_of z.reclaims b) z.blocks h.blocks s.blocks
+    sym (total-picked id_cmp (λ id (k : HeapBlock). quanta (len_of k.layout)) ids_total exact_ids (λ id b. kept_of z.reclaims b) z.blocks h.blocks s.blocks
     ∙ same_sum _ _ z.blocks (λ id b. quanta_at b b.since refl))
   where
-    quanta_at : (b : Block) (o : Option ℕ) → b.since ≡ o → at_value (λ (k : Kept). quanta (len_of k.layout)) (kept_of z.reclaims b) ≡ cond (is_some b.since) (quanta (len_of b.layout)) 0
+    quanta_at : (b : Block) (o : Option ℕ) → b.since ≡ o → at_value (λ (k : HeapBlock). quanta (len_of k.layout)) (kept_of z.reclaims b) ≡ cond (is_some b.since) (quanta (len_of b.layout)) 0
     quanta_at b None e = rw e refl
     quanta_at b (Some since) e = rw e refl
 
 pub number_stands : (h : Shared) (z : State) → Stands h z → (stats_of z).blocks ≡ number_of h.blocks
 number_stands h z s =
-    sym (total-picked id_cmp (λ id (k : Kept). 1) ids_total exact_ids (λ id b. kept_of z.reclaims b) z.blocks h.blocks s.blocks
+    sym (total-picked id_cmp (λ id (k : HeapBlock). 1) ids_total exact_ids (λ id b. kept_of z.reclaims b) z.blocks h.blocks s.blocks
     ∙ same_sum _ _ z.blocks (λ id b. one_at b b.since refl))
   where
-    one_at : (b : Block) (o : Option ℕ) → b.since ≡ o → at_value (λ (k : Kept). 1) (kept_of z.reclaims b) ≡ cond (is_some b.since) 1 0
+    one_at : (b : Block) (o : Option ℕ) → b.since ≡ o → at_value (λ (k : HeapBlock). 1) (kept_of z.reclaims b) ≡ cond (is_some b.since) 1 0
     one_at b None e = rw e refl
     one_at b (Some since) e = rw e refl
 
 -- a block more
-pub used_more : (m : FinMap id_cmp Kept) (id : BlockId) (k : Kept) → get m id ≡ None → used_by (insert m id k) ≡ used_by m + quanta (len_of k.layout)
-used_more m id k none = total_added ids_total exact_ids (λ id (k : Kept). quanta (len_of k.layout)) m id k none
+pub used_more : (m : FinMap id_cmp HeapBlock) (id : BlockId) (k : HeapBlock) → get m id ≡ None → used_by (insert m id k) ≡ used_by m + quanta (len_of k.layout)
+used_more m id k none = total_added ids_total exact_ids (λ id (k : HeapBlock). quanta (len_of k.layout)) m id k none
 
-pub number_more : (m : FinMap id_cmp Kept) (id : BlockId) (k : Kept) → get m id ≡ None → number_of (insert m id k) ≡ number_of m + 1
-number_more m id k none = total_added ids_total exact_ids (λ id (k : Kept). 1) m id k none
+pub number_more : (m : FinMap id_cmp HeapBlock) (id : BlockId) (k : HeapBlock) → get m id ≡ None → number_of (insert m id k) ≡ number_of m + 1
+number_more m id k none = total_added ids_total exact_ids (λ id (k : HeapBlock). 1) m id k none
 
 -- where nothing escapes, no quanta are needed
 pub none_needed : (z : State) → quanta_needed z (λ _. false) ≡ 0
@@ -63,10 +63,10 @@ not_full h z s fits = ap (is_overfull z) (none_needed z) ∙ full_stands h z 0 s
     below a b l = grind (arith, nat_tests)
 
 -- an edit that keeps what is summed keeps the sum
-pub sum_edited : (f : BlockId → Kept → ℕ) (m : FinMap id_cmp Kept) (id : BlockId) (g : Kept → Kept) → ((k : Kept) → f id (g k) ≡ f id k) → total f (with_edit m id g) ≡ total f m
+pub sum_edited : (f : BlockId → HeapBlock → ℕ) (m : FinMap id_cmp HeapBlock) (id : BlockId) (g : HeapBlock → HeapBlock) → ((k : HeapBlock) → f id (g k) ≡ f id k) → total f (with_edit m id g) ≡ total f m
 sum_edited f m id g same = go (get m id) refl
   where
-    go : (o : Option Kept) → get m id ≡ o → total f (option_map_or (λ k. insert m id (g k)) o m) ≡ total f m
+    go : (o : Option HeapBlock) → get m id ≡ o → total f (option_map_or (λ k. insert m id (g k)) o m) ≡ total f m
     go None e = refl
     go (Some k) e =
         let sum : total f (insert m id (g k)) + at_value (f id) (get m id) ≡ total f m + f id (g k) = total-insert ids_total exact_ids f m id (g k) in

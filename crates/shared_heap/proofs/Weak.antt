@@ -19,7 +19,7 @@ use Rattle.zone_model.specs.State.{State, with_weak, with_value, with_register}
 use Rattle.zone_model.specs.Step.{seen_now}
 use Rattle.zone_model.proofs.Steps.{step_plain}
 use Rattle.shared_heap.specs.Shared.{Shared, used_by}
-use Rattle.shared_heap.specs.Stands.{Stands, Sound}
+use Rattle.shared_heap.specs.Stands.{Stands, EscapedClosed}
 use Rattle.shared_heap.specs.Steps.{Runs, Stepped}
 use Rattle.shared_heap.specs.Weak.{IsPlaced, loc_misuse, showing}
 use Rattle.shared_heap.proofs.Standing.{seen_stands, register_stands}
@@ -72,7 +72,7 @@ module _ (h : Shared) (z : State) (t : ℕ) (runs : Runs h z t) where
       let reads : v ≡ get z.weak l = is ∙ sym (ap (λ m. get m l) runs.stands.weak) in
       (seen_now mid, step_plain z _ (seen_now mid) runs.running (λ id n. n) (read_misuse to named l placed at ∙ right) (mid, (rw at reads, refl), refl), seen_stands new mid (register_stands new z t to v s))
 
-  module _ (from : ℕ) (named : Loc) (l : WeakLoc) (v : Option BlockId) (sound : Sound z) (placed : IsPlaced h l) (there : IfSome v (λ b. IsSome (get h.blocks b))) (at : weak_loc z t named ≡ Some l) (has_value : z.registers t from ≡ v) where
+  module _ (from : ℕ) (named : Loc) (l : WeakLoc) (v : Option BlockId) (sound : EscapedClosed z) (placed : IsPlaced h l) (there : IfSome v (λ b. IsSome (get h.blocks b))) (at : weak_loc z t named ≡ Some l) (has_value : z.registers t from ≡ v) where
     assign_needs : (id : BlockId) → Need z t (call.SetWeak named from) id → ⊥
     assign_needs id n = elim n [
       | inl e ↦ none_escape h z v runs.stands sound there id (subst (λ v. EscOf z v id) has_value e)

@@ -20,7 +20,7 @@ use Rattle.block_layouts.specs.declared.layout.Layout.{Layout}
 use Rattle.block_layouts.specs.declared.layout.Shape.TheVariants as shape
 use Rattle.weak_table.specs.Locs.{coded_loc}
 use Rattle.shared_heap.specs.Holds.{Holds}
-use Rattle.shared_heap.specs.Stored.{Kept, Held}
+use Rattle.shared_heap.specs.Stored.{HeapBlock, Held}
 use Rattle.shared_heap.specs.Table.{Table}
 use Rattle.shared_heap.specs.Ready.{Ready, coded_ready}
 use Rattle.shared_heap.specs.Shared.{Shared}
@@ -102,16 +102,16 @@ coded_action = code_by (ℕ ⊎ (ℕ × ℕ)) (coded⊎ coded_ℕ (coded× coded
 abbrev pub coded_holds : Coded Holds
 coded_holds = map.code coded_ℕ coded_ℕ
 
-abbrev pub coded_kept : Coded Kept
+abbrev pub coded_kept : Coded HeapBlock
 coded_kept = code_by (Layout × (List Word × (List Action × (Bool × ℕ)))) (coded× coded_layout (coded× (coded_list coded_word) (coded× (coded_list coded_action) (coded× coded_bool coded_ℕ))))
     (λ k. (k.layout, (k.words, (k.actions, (k.finalised, k.age)))))
     (λ p. record { layout = p.0; words = p.1.0; actions = p.1.1.0; finalised = p.1.1.1.0; age = p.1.1.1.1 }) (λ _. refl)
 
 abbrev pub coded_held : Coded Held
-coded_held = code_by (Kept × Holds) (coded× coded_kept coded_holds) (λ h. (h.kept, h.holds)) (λ p. record { kept = p.0; holds = p.1 }) (λ _. refl)
+coded_held = code_by (HeapBlock × Holds) (coded× coded_kept coded_holds) (λ h. (h.kept, h.holds)) (λ p. record { kept = p.0; holds = p.1 }) (λ _. refl)
 
 abbrev pub coded_table : Coded Table
-coded_table = code_by (FinMap id_cmp Kept × (FinMap id_cmp Holds × ℕ)) (coded× (map.code coded_id coded_kept) (coded× (map.code coded_id coded_holds) coded_ℕ))
+coded_table = code_by (FinMap id_cmp HeapBlock × (FinMap id_cmp Holds × ℕ)) (coded× (map.code coded_id coded_kept) (coded× (map.code coded_id coded_holds) coded_ℕ))
     (λ t. (t.blocks, (t.holds, t.spare))) (λ p. record { blocks = p.0; holds = p.1.0; spare = p.1.1 }) (λ _. refl)
 
 -- of the counts, the associations and the weak locations
@@ -129,7 +129,7 @@ abbrev Tables : Type 0
 Tables = FinMap id_cmp ℕ × (FinMap pair_cmp BlockId × FinMap loc_cmp BlockId)
 
 abbrev pub coded_shared : Coded Shared
-coded_shared = code_by (Options × (FinMap id_cmp Kept × (FinMap id_cmp Holds × (List (Option BlockId) × (Tables × (Ready × List ℕ))))))
+coded_shared = code_by (Options × (FinMap id_cmp HeapBlock × (FinMap id_cmp Holds × (List (Option BlockId) × (Tables × (Ready × List ℕ))))))
     (coded× coded_options (coded× (map.code coded_id coded_kept) (coded× (map.code coded_id coded_holds) (coded× (coded_list (coded_option coded_id)) (coded× (coded× coded_counts (coded× coded_assocs coded_weak)) (coded× coded_ready (coded_list coded_ℕ)))))))
     (λ h. (h.options, (h.blocks, (h.holds, (h.roots, ((h.counts, (h.assocs, h.weak)), (h.ready, h.room)))))))
     (λ p. record { options = p.0; blocks = p.1.0; holds = p.1.1.0; roots = p.1.1.1.0; counts = p.1.1.1.1.0.0; assocs = p.1.1.1.1.0.1.0; weak = p.1.1.1.1.0.1.1; ready = p.1.1.1.1.1.0; room = p.1.1.1.1.1.1 }) (λ _. refl)

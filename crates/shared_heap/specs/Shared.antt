@@ -15,11 +15,11 @@ use Rattle.zone_model.specs.Maps.{total}
 use Rattle.zone_model.specs.State.{with_edit}
 use Rattle.shared_heap.specs.Holds.{Holds, times, with_times}
 use Rattle.shared_heap.specs.Ready.{Ready, unready, with_room}
-use Rattle.shared_heap.specs.Stored.{Kept}
+use Rattle.shared_heap.specs.Stored.{HeapBlock}
 
 pub record Shared : Type 0 where
   pub options : Options
-  pub blocks : FinMap id_cmp Kept
+  pub blocks : FinMap id_cmp HeapBlock
   -- of each block, which threads hold it and how often
   pub holds : FinMap id_cmp Holds
   -- of 256
@@ -48,11 +48,11 @@ abbrev pub IsFresh : Shared → BlockId → Type 0
 IsFresh h id = get h.holds id ≡ Some empty
 
 -- the quanta of the blocks
-abbrev pub used_by : FinMap id_cmp Kept → ℕ
+abbrev pub used_by : FinMap id_cmp HeapBlock → ℕ
 used_by blocks = total (λ id k. quanta (len_of k.layout)) blocks
 
 -- how many blocks there are
-abbrev pub number_of : FinMap id_cmp Kept → ℕ
+abbrev pub number_of : FinMap id_cmp HeapBlock → ℕ
 number_of blocks = total (λ id k. 1) blocks
 
 -- the statistics: the blocks, their quanta, the blocks with a positive count, the weak locations that show a block, and the associations
@@ -86,7 +86,7 @@ written h None at w = h
 written h (Some id) at w = record h { blocks = with_edit h.blocks id (λ k. record k { words = slice_set k.words at w }) }
 
 -- a block that has just escaped
-abbrev pub newly : Layout → List Word → List Action → Kept
+abbrev pub newly : Layout → List Word → List Action → HeapBlock
 newly layout words actions = record { layout = layout; words = words; actions = actions; finalised = false; age = 0 }
 
 -- a new block, which the thread holds once

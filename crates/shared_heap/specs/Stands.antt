@@ -4,15 +4,15 @@ use Rattle.std.specs.FinMap.{get}
 use Rattle.az_base.specs.declared.block_id.BlockId.{BlockId}
 use Rattle.zone_model.specs.State.{State, Block, is_escaped}
 use Rattle.zone_model.specs.Reach.{Edge}
-use Rattle.shared_heap.specs.Stored.{Kept}
+use Rattle.shared_heap.specs.Stored.{HeapBlock}
 use Rattle.shared_heap.specs.Shared.{Shared, root_in}
 
 -- what the heap keeps of a block, where it has escaped and there were so many Reclaims
-abbrev pub kept_of : ℕ → Block → Option Kept
+abbrev pub kept_of : ℕ → Block → Option HeapBlock
 kept_of reclaims b = option_map (λ since. record { layout = b.layout; words = b.words; actions = b.actions; finalised = b.finalised; age = min (reclaims - since) 3 }) b.since
 
 -- the same of what a state has at an id
-abbrev pub escaped_view : ℕ → Option Block → Option Kept
+abbrev pub escaped_view : ℕ → Option Block → Option HeapBlock
 escaped_view reclaims o = option_and_then (kept_of reclaims) o
 
 -- the escaped blocks, the roots, the options and the tables are those of the state, which has no open cycle
@@ -26,7 +26,6 @@ pub record Stands (h : Shared) (z : State) : Type 0 where
   -- there is no collection yet
   pub cycle : z.cycle ≡ None
 
--- what holds between calls, as far as the calls rest on it: no escaped block refers to an unescaped one, and roots hold escaped blocks
-pub record Sound (z : State) : Type 0 where
-  pub edges : (a b : BlockId) → IsTrue (is_escaped z a) → Edge z a b → IsTrue (is_escaped z b)
-  pub roots : (g : ℕ) (b : BlockId) → z.roots g ≡ Some b → IsTrue (is_escaped z b)
+-- what has escaped leads to what has escaped alone: so much of a sound state the calls rest on
+abbrev pub EscapedClosed : State → Type 0
+EscapedClosed z = (a b : BlockId) → IsTrue (is_escaped z a) → Edge z a b → IsTrue (is_escaped z b)

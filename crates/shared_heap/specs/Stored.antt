@@ -6,7 +6,7 @@ use Rattle.block_layouts.specs.declared.layout.Layout.{Layout}
 use Rattle.shared_heap.specs.Holds.{Holds}
 
 -- an escaped block
-pub record Kept : Type 0 where
+pub record HeapBlock : Type 0 where
   pub layout : Layout
   pub words : List Word
   pub actions : List Action
@@ -16,5 +16,5 @@ pub record Kept : Type 0 where
 
 -- an escaped block, and who holds it
 pub record Held : Type 0 where
-  pub kept : Kept
+  pub kept : HeapBlock
   pub holds : Holds

@@ -4,11 +4,11 @@ use Rattle.std.specs.FinMap.{FinMap, from_entries}
 use Rattle.az_base.specs.declared.block_id.BlockId.{BlockId}
 use Rattle.az_base.specs.Ids.{id_cmp}
 use Rattle.shared_heap.specs.Holds.{Holds}
-use Rattle.shared_heap.specs.Stored.{Kept, Held}
+use Rattle.shared_heap.specs.Stored.{HeapBlock, Held}
 
 -- the blocks, who holds each, and how many more there is room for
 pub record Table : Type 0 where
-  pub blocks : FinMap id_cmp Kept
+  pub blocks : FinMap id_cmp HeapBlock
   pub holds : FinMap id_cmp Holds
   pub spare : ℕ
 

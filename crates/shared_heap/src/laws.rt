@@ -1,9 +1,10 @@
 //! Theorems over heaps and the states for which they stand. Each is the contract of a function that does nothing.
 ghost use Rattle.std.specs.Prelude.{◌≡◌, ◌<◌, ℕ, true, [], ◌∷◌, ◌++◌, List, None, Option};
+ghost use Rattle.std.specs.FinMap.{get};
 ghost use Rattle.az_base.specs.declared.action.Action.{Action};
 ghost use Rattle.az_base.specs.declared.block_id.BlockId.{BlockId};
 ghost use Rattle.az_base.specs.declared.word.Word.{Word};
-ghost use Rattle.az_base.specs.Ids.{same_id};
+ghost use Rattle.az_base.specs.Ids.{id_of, same_id};
 ghost use Rattle.block_layouts.specs.declared.layout.Layout.{Layout};
 ghost use Rattle.zone_model.specs.declared.call.Call.{Call};
 ghost use Rattle.zone_model.specs.declared.call.Call.TheVariants as call;
@@ -18,7 +19,7 @@ ghost use Rattle.zone_model.specs.State.{State, Cycle};
 ghost use Rattle.zone_model.specs.Step.{Step};
 ghost use Rattle.shared_heap.specs.Holding.{holds_of, pair_of, pairs_in, replaced, HoldsAgree, HoldsAgreeBut, HoldsMore, HoldsBorn, HoldsSet, HoldsAdmitted, HoldsItsOwn, HoldsOnceMore, HoldsAsBefore, LeavesParts, ReadsTo};
 ghost use Rattle.shared_heap.specs.Shared.{Shared};
-ghost use Rattle.shared_heap.specs.Stands.{Stands};
+ghost use Rattle.shared_heap.specs.Stands.{Stands, EscapedClosed};
 ghost use Rattle.shared_heap.specs.Steps.{IsUnescaped};
 
 /// A heap that stands for a state stands for each that is alike in what is shared: so what a thread does to its own
@@ -62,9 +63,12 @@ pub fn admitted_blocks_leave_the_holds_as_before()
     ensures own { (z : State) (id : BlockId) (layout : Layout) (words : List Word) → HoldsItsOwn z → IsUnescaped z id layout words → HoldsItsOwn (with_escaped z (same_id id)) }
 {}
 
-/// In a sound state each thread holds but what has escaped and what is its own.
-pub fn sound_states_hold_their_own()
-    ensures { (z : State) → Sound z → HoldsItsOwn z }
+/// What a sound state is to the heap's calls: what has escaped leads to what has escaped alone, each thread holds but what
+/// has escaped and what is its own, and the next id of a thread is no block's.
+pub fn sound_states_are_ready_for_heaps()
+    ensures closed { (z : State) → Sound z → EscapedClosed z }
+    ensures own { (z : State) → Sound z → HoldsItsOwn z }
+    ensures next { (z : State) (t : ℕ) → Sound z → get z.blocks (id_of t (z.serials t)) ≡ None }
 {}
 
 /// Where all agrees but for what a register held before, it is that pair alone that doesn't; and where no pair is left,

@@ -53,6 +53,6 @@ pub use heap::Heap;
 pub use laws::{
     admitted_blocks_leave_the_holds_as_before, births_count_what_they_replace_once_more,
     no_cycle_is_open, once_more_is_one_pair, other_calls_leave_the_holds,
-    reads_count_what_they_replace_once_more, sound_states_hold_their_own, what_is_said_agrees,
+    reads_count_what_they_replace_once_more, sound_states_are_ready_for_heaps, what_is_said_agrees,
     what_is_shared_alike_is_stood_for_alike,
 };

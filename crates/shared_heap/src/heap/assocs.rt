@@ -6,7 +6,7 @@ ghost use Rattle.zone_model.specs.declared.call.Call.TheVariants as call;
 ghost use Rattle.zone_model.specs.State.{State};
 ghost use Rattle.shared_heap.specs.Assocs.{assoc_reply, associated};
 ghost use Rattle.shared_heap.specs.Shared.{held};
-ghost use Rattle.shared_heap.specs.Stands.{Sound};
+ghost use Rattle.shared_heap.specs.Stands.{EscapedClosed};
 ghost use Rattle.shared_heap.specs.Holding.{HoldsMore};
 ghost use Rattle.shared_heap.specs.Steps.{Runs, Stepped, after_read, names};
 
@@ -31,7 +31,7 @@ impl Heap {
         ensures taken { value ≡ None → IsOk result }
         ensures reply { IfOk result (λ r. r ≡ assoc_reply self.old object key.0) }
         ensures value { IfOk result (λ r. self.new ≡ associated self.old object key.0 value) }
-        ensures step { IfOk result (λ r. (z : State) (reg from : ℕ) → Runs self.old z t → Sound z → z.registers t reg ≡ object → z.registers t from ≡ value → Stepped self.new z t (call.SetAssoc reg key from) r) }
+        ensures step { IfOk result (λ r. (z : State) (reg from : ℕ) → Runs self.old z t → EscapedClosed z → z.registers t reg ≡ object → z.registers t from ≡ value → Stepped self.new z t (call.SetAssoc reg key from) r) }
         ensures err { OnErr result (self.new ≡ self.old) }
     {
         let Some(object) = object else {

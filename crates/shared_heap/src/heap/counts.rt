@@ -6,7 +6,7 @@ ghost use Rattle.zone_model.specs.declared.call.Call.TheVariants as call;
 ghost use Rattle.zone_model.specs.declared.entry.Reply.TheVariants as reply;
 ghost use Rattle.zone_model.specs.State.{State};
 ghost use Rattle.shared_heap.specs.Shared.{held, used_by};
-ghost use Rattle.shared_heap.specs.Stands.{Sound};
+ghost use Rattle.shared_heap.specs.Stands.{EscapedClosed};
 ghost use Rattle.shared_heap.specs.Holding.{HoldsMore};
 ghost use Rattle.shared_heap.specs.Steps.{Runs, Stepped, after_read, names};
 ghost use Rattle.shared_heap.specs.Retained.{count_at, retain_misuse, release_misuse, count_misuse, take_misuse, after_retain, after_release};
@@ -25,7 +25,7 @@ impl Heap {
         ensures reply { IfOk result (λ r. r ≡ reply_or (retain_misuse self.old id) (reply.Number (count_at self.old id + 1))) }
         ensures value { IfOk result (λ r. self.new ≡ after_retain self.old id self.new.ready.counts r) }
         ensures ready { self.old.ready.counts ≤ self.new.ready.counts + 1 }
-        ensures step { IfOk result (λ r. (z : State) (reg : ℕ) → Runs self.old z t → Sound z → z.registers t reg ≡ id → Stepped self.new z t (call.Retain reg) r) }
+        ensures step { IfOk result (λ r. (z : State) (reg : ℕ) → Runs self.old z t → EscapedClosed z → z.registers t reg ≡ id → Stepped self.new z t (call.Retain reg) r) }
         ensures err { OnErr result (self.new ≡ self.old) }
         ensures sure { (0 < self.old.ready.counts) ⊎ ((0 < count_at self.old id) ⊎ IsSome (retain_misuse self.old id)) → IsOk result }
     {

@@ -6,7 +6,7 @@ ghost use Rattle.zone_model.specs.declared.call.Call.TheVariants as call;
 ghost use Rattle.zone_model.specs.declared.entry.Reply.TheVariants as reply;
 ghost use Rattle.zone_model.specs.State.{State};
 ghost use Rattle.shared_heap.specs.Shared.{root_in, rooted, holding_more};
-ghost use Rattle.shared_heap.specs.Stands.{Sound};
+ghost use Rattle.shared_heap.specs.Stands.{EscapedClosed};
 ghost use Rattle.shared_heap.specs.Holding.{HoldsMore};
 ghost use Rattle.shared_heap.specs.Steps.{Runs, Stepped, after_read, names};
 
@@ -20,7 +20,7 @@ impl Heap {
         requires escaped { IfSome value (λ b. IsSome (get self.old.blocks b)) }
         ensures reply { result ≡ reply.Done }
         ensures value { self.new ≡ rooted self.old root.0 value }
-        ensures step { (z : State) (from : ℕ) → Runs self.old z t → Sound z → z.registers t from ≡ value → Stepped self.new z t (call.SetRoot root from) result }
+        ensures step { (z : State) (from : ℕ) → Runs self.old z t → EscapedClosed z → z.registers t from ≡ value → Stepped self.new z t (call.SetRoot root from) result }
     {
         self.roots[root.0 as usize] = value;
         Reply::Done

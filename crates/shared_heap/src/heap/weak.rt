@@ -8,7 +8,7 @@ ghost use Rattle.zone_model.specs.declared.entry.Reply.TheVariants as reply;
 ghost use Rattle.zone_model.specs.Effect.{weak_loc};
 ghost use Rattle.zone_model.specs.State.{State};
 ghost use Rattle.shared_heap.specs.Shared.{held, used_by};
-ghost use Rattle.shared_heap.specs.Stands.{Sound};
+ghost use Rattle.shared_heap.specs.Stands.{EscapedClosed};
 ghost use Rattle.shared_heap.specs.Holding.{HoldsMore};
 ghost use Rattle.shared_heap.specs.Steps.{Runs, Stepped, after_read, names};
 ghost use Rattle.shared_heap.specs.Weak.{IsPlaced, loc_misuse, showing, after_assign};
@@ -33,7 +33,7 @@ impl Heap {
         ensures sure { IfSome value (λ b. self.old.ready.value ≡ Some b) → IsOk result }
         ensures reply { IfOk result (λ r. r ≡ reply_or (loc_misuse self.old loc) (reply.Block value)) }
         ensures value { IfOk result (λ r. self.new ≡ after_assign self.old loc r) }
-        ensures step { IfOk result (λ r. (z : State) (l : Loc) (from : ℕ) → Runs self.old z t → Sound z → weak_loc z t l ≡ Some loc → z.registers t from ≡ value → Stepped self.new z t (call.SetWeak l from) r) }
+        ensures step { IfOk result (λ r. (z : State) (l : Loc) (from : ℕ) → Runs self.old z t → EscapedClosed z → weak_loc z t l ≡ Some loc → z.registers t from ≡ value → Stepped self.new z t (call.SetWeak l from) r) }
         ensures err { OnErr result (self.new ≡ self.old) }
     {
         let (loc, value) = (&loc, &value);

@@ -9,7 +9,7 @@ ghost use Rattle.zone_model.specs.declared.call.Call.TheVariants as call;
 ghost use Rattle.zone_model.specs.declared.entry.Reply.TheVariants as reply;
 ghost use Rattle.zone_model.specs.State.{State, reference, referent};
 ghost use Rattle.shared_heap.specs.Shared.{held, used_by};
-ghost use Rattle.shared_heap.specs.Stands.{Stands, Sound};
+ghost use Rattle.shared_heap.specs.Stands.{Stands, EscapedClosed};
 ghost use Rattle.shared_heap.specs.Holding.{HoldsMore};
 ghost use Rattle.shared_heap.specs.Steps.{Runs, Stepped, NeedsWord, first_three, after_read, after_write, names};
 ghost use Rattle.block_layouts.specs.Fitting.{Suits};
@@ -108,7 +108,7 @@ impl Heap {
         ensures sure { IsOk result }
         ensures reply { IfOk result (λ r. r ≡ reply_or (word_misuse self.old into at class.Strong) reply.Done) }
         ensures value { IfOk result (λ r. self.new ≡ after_write self.old into at (reference value) r) }
-        ensures step { IfOk result (λ r. (z : State) (reg from : ℕ) → Runs self.old z t → Sound z → z.registers t reg ≡ into → z.registers t from ≡ value → Stepped self.new z t (call.Store reg at from) r) }
+        ensures step { IfOk result (λ r. (z : State) (reg from : ℕ) → Runs self.old z t → EscapedClosed z → z.registers t reg ≡ into → z.registers t from ≡ value → Stepped self.new z t (call.Store reg at from) r) }
     {
         Ok(self.write(into, at, Class::Strong, reference(value)))
     }

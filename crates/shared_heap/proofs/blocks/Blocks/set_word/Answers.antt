@@ -2,7 +2,7 @@ use Rattle.std.proofs.Common.{◌≡◌, ap, ◌∙◌, sym, subst, None, is_som
 use Rattle.std.specs.Option.{option_map}
 use Rattle.std.specs.FinMap.{get}
 use Rattle.zone_model.specs.State.{with_edit}
-use Rattle.shared_heap.specs.Stored.{Held, Kept}
+use Rattle.shared_heap.specs.Stored.{Held, HeapBlock}
 use Rattle.shared_heap.specs.Table.{Table, each_of}
 use Rattle.block_layouts.specs.Fitting.{FitsAt}
 use Rattle.shared_heap.proofs.Tables.{each_there, each_get, each_edit, each_kept, eq_ids}
@@ -19,7 +19,7 @@ set_word-requires c =
 
 pub returns-clause-blocks : goal.returns-clause-blocks
 returns-clause-blocks c =
-    let change = λ (k : Kept). let r : Kept = record k { words = slice_set k.words c.args.at c.args.word } in r in
+    let change = λ (k : HeapBlock). let r : HeapBlock = record k { words = slice_set k.words c.args.at c.args.word } in r in
     each_edit (λ (s : Held). s.kept) _ eq_ids c.self.inside.stored.entries _ c.args.id c.in-Some.stored.now c.set_word.new.self change c.in-Some.ensures.value (ap (λ (s : Held). s.kept) c.set_word.ensures) ((c.get_mut.follows.holds _).3 (ap is_some (sym c.in-Some.ensures.value))).0
     ∙ ap (λ (t : Table). with_edit t.blocks c.args.id change) c.self.view_is
 

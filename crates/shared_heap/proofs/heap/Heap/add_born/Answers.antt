@@ -1,7 +1,7 @@
 use Rattle.std.proofs.Common.{◌≡◌, ◌+◌, ◌≤◌, ◌∙◌, ap, arith, [], None}
 use Rattle.std.specs.FinMap.{get}
 use Rattle.block_layouts.specs.Layouts.{quanta, len_of}
-use Rattle.shared_heap.specs.Stored.{Kept}
+use Rattle.shared_heap.specs.Stored.{HeapBlock}
 use Rattle.shared_heap.specs.Shared.{used_by, number_of}
 use Rattle.shared_heap.proofs.Sums.{used_more, number_more}
 use Rattle.shared_heap.proofs.heap.Heap.add_born.Goals as goal
@@ -13,7 +13,7 @@ invariant_of-self-2 c =
     let none : get old c.args.id ≡ None = rw (← c.self.view_is) at c.requires.absent in
     let left : c.self.inside.room ≡ [] = rw (← c.self.view_is) at c.requires.room in
     let fits : used_by old + quanta (len_of c.args.layout.now) ≤ c.self.inside.options.heap_quanta = rw (← c.self.view_is) at c.requires.fits in
-    let used_now : used_by c.add.new.self.blocks ≡ used_by old + quanta (len_of c.args.layout.now) = ap used_by c.in_ok-add.ensures.blocks ∙ used_more old c.args.id c.in_ok-stored.stored.kept none ∙ ap (λ (k : Kept). used_by old + quanta (len_of k.layout)) c.in_ok-stored.ensures.kept in
+    let used_now : used_by c.add.new.self.blocks ≡ used_by old + quanta (len_of c.args.layout.now) = ap used_by c.in_ok-add.ensures.blocks ∙ used_more old c.args.id c.in_ok-stored.stored.kept none ∙ ap (λ (k : HeapBlock). used_by old + quanta (len_of k.layout)) c.in_ok-stored.ensures.kept in
     let number_now : number_of c.add.new.self.blocks ≡ number_of old + 1 = ap number_of c.in_ok-add.ensures.blocks ∙ number_more old c.args.id c.in_ok-stored.stored.kept none in
     record {
       used = omega (arith, i.used, c.quanta-quanta.ensures.value);

@@ -1,7 +1,7 @@
 use Rattle.std.proofs.Common.{◌≡◌, ◌+◌, ◌≤◌, ◌∙◌, refl, ap, arith, slice_get, Some, None}
 use Rattle.std.specs.FinMap.{get}
 use Rattle.block_layouts.specs.Layouts.{quanta, len_of}
-use Rattle.shared_heap.specs.Stored.{Kept}
+use Rattle.shared_heap.specs.Stored.{HeapBlock}
 use Rattle.shared_heap.specs.Shared.{Shared, used_by, number_of}
 use Rattle.shared_heap.specs.contracts.heap.Heap.{the_view}
 use Rattle.shared_heap.proofs.Holding.{held_admitted, fresh_admitted}
@@ -18,7 +18,7 @@ invariant_of-self c =
     let at : slice_get c.self.inside.room 0 ≡ Some (len_of c.args.layout) = ap (λ (h : Shared). slice_get h.room 0) c.self.view_is ∙ c.requires.room in
     let shorter = fewer c.self.inside.room (len_of c.args.layout) at in
     let fits : used_by old + quanta (len_of c.args.layout) ≤ c.self.inside.options.heap_quanta = rw (← c.self.view_is) at c.requires.fits in
-    let used_now : used_by c.add.new.self.blocks ≡ used_by old + quanta (len_of c.args.layout) = ap used_by c.in-Ok.ensures.blocks ∙ used_more old c.args.id c.new-stored.result.kept none ∙ ap (λ (k : Kept). used_by old + quanta (len_of k.layout)) c.new-stored.ensures.kept in
+    let used_now : used_by c.add.new.self.blocks ≡ used_by old + quanta (len_of c.args.layout) = ap used_by c.in-Ok.ensures.blocks ∙ used_more old c.args.id c.new-stored.result.kept none ∙ ap (λ (k : HeapBlock). used_by old + quanta (len_of k.layout)) c.new-stored.ensures.kept in
     let number_now : number_of c.add.new.self.blocks ≡ number_of old + 1 = ap number_of c.in-Ok.ensures.blocks ∙ number_more old c.args.id c.new-stored.result.kept none in
     record {
       used = omega (arith, i.used, c.quanta.ensures.value);
@@ -46,5 +46,5 @@ pub returns-clause-used : goal.returns-clause-used
 returns-clause-used c =
     let old = c.self.inside.blocks.blocks in
     let none : get old c.args.id ≡ None = rw (← c.self.view_is) at c.requires.absent in
-    ap used_by c.in-Ok.ensures.blocks ∙ used_more old c.args.id c.new-stored.result.kept none ∙ ap (λ (k : Kept). used_by old + quanta (len_of k.layout)) c.new-stored.ensures.kept
+    ap used_by c.in-Ok.ensures.blocks ∙ used_more old c.args.id c.new-stored.result.kept none ∙ ap (λ (k : HeapBlock). used_by old + quanta (len_of k.layout)) c.new-stored.ensures.kept
     ∙ ap (λ (h : Shared). used_by h.blocks + quanta (len_of c.args.layout)) c.self.view_is

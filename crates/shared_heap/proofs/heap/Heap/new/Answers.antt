@@ -4,7 +4,7 @@ use Rattle.az_base.specs.declared.block_id.BlockId.{BlockId}
 use Rattle.az_base.specs.Ids.{id_cmp}
 use Rattle.block_layouts.specs.Layouts.{quanta, len_of}
 use Rattle.zone_model.proofs.MapLaws.{total-empty}
-use Rattle.shared_heap.specs.Stored.{Kept}
+use Rattle.shared_heap.specs.Stored.{HeapBlock}
 use Rattle.shared_heap.specs.Shared.{used_by, number_of}
 use Rattle.shared_heap.proofs.Retained.{below_empty}
 use Rattle.shared_heap.proofs.Standing.{opening_stands}
@@ -12,9 +12,9 @@ use Rattle.shared_heap.proofs.heap.Heap.new.Goals as goal
 
 pub invariant_of-result : goal.invariant_of-result
 invariant_of-result c = record {
-  used = ap used_by c.new.ensures.blocks ∙ total-empty id_cmp (λ id (k : Kept). quanta (len_of k.layout));
+  used = ap used_by c.new.ensures.blocks ∙ total-empty id_cmp (λ id (k : HeapBlock). quanta (len_of k.layout));
   fits = omega arith;
-  number = ap number_of c.new.ensures.blocks ∙ total-empty id_cmp (λ id (k : Kept). 1);
+  number = ap number_of c.new.ensures.blocks ∙ total-empty id_cmp (λ id (k : HeapBlock). 1);
   few = omega arith;
   roots = ap length c.in-Ok.ensures.items ∙ length-replicate 256 (let o : Option BlockId = None in o);
   room = rw c.none.ensures (omega arith);
