@@ -3,3 +3,4 @@ pub mod Parting
 pub mod Digits
 pub mod NumeralLaws
 pub mod NameLaws
+pub mod TextLines

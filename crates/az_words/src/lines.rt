@@ -1,5 +1,6 @@
 //! The lines of a text.
 ghost use Rattle.std.specs.Prelude.{◌≡◌, ◌∷◌, ◌<◌, ◌≤◌, ℕ, true, false, slice_index, [], length, IfSome, IfNone};
+ghost use Rattle.std.specs.Str.{IsUtf8};
 ghost use Rattle.az_words.specs.Lines.{is_feed, lines_of};
 
 /// How many bytes stand before the first line feed.
@@ -22,6 +23,7 @@ pub fn next_line(bytes: &[u8]) -> Option<(&[u8], &[u8])>
     ensures some { IfSome result (λ x. lines_of bytes.now ≡ x.0.now ∷ lines_of x.1.now) }
     ensures none { IfNone result (lines_of bytes.now ≡ []) }
     ensures shorter { IfSome result (λ x. length x.1.now < length bytes.now) }
+    ensures text { IsUtf8 bytes.now → IfSome result (λ x. IsUtf8 x.0.now × IsUtf8 x.1.now) }
 {
     if bytes.is_empty() {
         return None;

@@ -1,36 +1,38 @@
 //! The numbers that words say.
-ghost use Rattle.std.specs.Prelude.{◌≡◌, ◌≤◌, IfSome};
-ghost use Rattle.std.specs.List.{list_all};
+ghost use Rattle.std.specs.Prelude.{◌≡◌, ◌≤◌, ◌+◌, ◌*◌, ◌-◌, true, IfSome};
 ghost use Rattle.std.specs.Char.{is_ascii_digit};
-ghost use Rattle.az_words.specs.Numerals.{numeral_of, number_in};
+ghost use Rattle.az_words.specs.Numerals.{below_2_64, numeral_of, number_in};
 
-use std::str;
-
-fn all_digits(word: &[u8]) -> bool
-    ensures { result ≡ list_all is_ascii_digit word.now }
+/// The number with one digit more at its end; None exactly where it is 2^64 or larger.
+fn with_digit(value: u64, digit: u8) -> Option<u64>
+    requires { is_ascii_digit digit ≡ true }
+    ensures { result ≡ below_2_64 (value * 10 + (digit - 48)) }
 {
-    word.iter().all(|b| b.is_ascii_digit())
+    value.checked_mul(10)?.checked_add(u64::from(digit - b'0'))
 }
 
 /// The value of a numeral: 1 to 20 decimal digits, leading zeros included, whose value is below 2^64. None exactly
 /// where the word is no numeral. O(bytes of the word).
-#[tactic(auto, unfolding(crate::specs::Numerals::numeral_of))]
 pub fn numeral(word: &[u8]) -> Option<u64>
     ensures { result ≡ numeral_of word.now }
 {
-    if !all_digits(word) {
-        return None;
-    }
     if word.is_empty() {
         return None;
     }
     if word.len() > 20 {
         return None;
     }
-    match str::from_utf8(word) {
-        Ok(text) => text.parse().ok(),
-        Err(_) => None,
+    let mut value = 0u64;
+    for (i, digit) in word.iter().enumerate() {
+        if !digit.is_ascii_digit() {
+            return None;
+        }
+        match with_digit(value, *digit) {
+            Some(more) => value = more,
+            None => return None,
+        }
     }
+    Some(value)
 }
 
 /// The value of a numeral from `low` to `high`; None exactly where the word is none.
