@@ -9,7 +9,7 @@ use Rattle.heap_script.specs.declared.cause.Cause.TheVariants.{NotText, LineTooL
 use Rattle.heap_script.specs.declared.entries.Entry.{Entry}
 use Rattle.heap_script.specs.declared.entries.Entry.TheVariants as entry
 use Rattle.heap_script.specs.Lines.{IsFit, is_skipped}
-use Rattle.heap_script.specs.Refusals.{after_option, Refusal}
+use Rattle.heap_script.specs.Refusals.{after_option}
 use Rattle.heap_script.specs.Reading.Scripts.{same_thread, line_of, setting_of, entry_by, entry_of, at_line}
 use Rattle.heap_script.proofs.Steps.{passed, bind_ok, ok_same}
 

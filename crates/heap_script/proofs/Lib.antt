@@ -8,3 +8,4 @@ pub mod OptionLaws
 pub mod ScriptLaws
 pub mod RefusalLaws
 pub mod Found
+pub mod Readings

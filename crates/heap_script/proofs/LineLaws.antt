@@ -1,5 +1,5 @@
 -- What is read is a call line of the grammar, and each call line of the grammar is read.
-use Rattle.std.proofs.Common.{true, ◌≡◌, ℕ, List, [], ◌∷◌, Option, Some, None, Result, Ok, Err, refl, sym, ap, ◌∙◌, subst}
+use Rattle.std.proofs.Common.{true, ◌≡◌, ℕ, List, [], ◌∷◌, Option, Some, None, Ok, refl, sym, ap, ◌∙◌, subst}
 use Rattle.std.proofs.lemmas.Bool.{eq-eqb}
 use Rattle.az_words.specs.Laws.{NumbersAreRead}
 use Rattle.call_words.specs.declared.names.CallName.{CallName}
@@ -7,7 +7,6 @@ use Rattle.call_words.specs.Names.{name_text, name_of}
 use Rattle.call_words.specs.Laws.{NamesAreRead, ArgumentsAreRead}
 use Rattle.call_words.specs.Reading.Words.{thread_of}
 use Rattle.call_words.specs.Reading.Calls.{next_as, act_at}
-use Rattle.heap_script.specs.declared.cause.Cause.{Cause}
 use Rattle.heap_script.specs.declared.cause.Cause.TheVariants.{NoThread, NoCall, WrongArgument}
 use Rattle.heap_script.specs.declared.line.Line.{Line}
 use Rattle.heap_script.specs.Built.{is_built_before, most_actions}

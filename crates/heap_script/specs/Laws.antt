@@ -1,12 +1,12 @@
 -- What is read of a script, said apart from how
-use Rattle.std.specs.Prelude.{◌≡◌, ◌↔◌, ℕ, List, [], Option, Ok, Err}
+use Rattle.std.specs.Prelude.{◌≡◌, ◌↔◌, ◌⊎◌, ℕ, List, [], Option, Ok, Err}
 use Rattle.heap_script.specs.declared.cause.Cause.{Cause}
 use Rattle.heap_script.specs.declared.line.Line.{Line}
 use Rattle.heap_script.specs.declared.script.Script.{Script}
 use Rattle.heap_script.specs.declared.setting.Setting.{Setting}
 use Rattle.heap_script.specs.Lines.{IsLine, SettingAt}
 use Rattle.heap_script.specs.Refusals.{LineCause, SettingCause, Refusal}
-use Rattle.heap_script.specs.Scripts.{IsScript, IsRefused}
+use Rattle.heap_script.specs.Scripts.{IsScript, IsRefused, IsOnlyScript, IsOnlyRefusal}
 use Rattle.heap_script.specs.Reading.Scripts.{line_of, setting_of, script_of}
 
 -- exactly the call lines of the grammar are read, each as what it says
@@ -32,3 +32,7 @@ ScriptsAreRead = (bytes : List ℕ) (script : Script) → (script_of bytes ≡ O
 -- bytes are refused exactly at their first line that has a cause, with the first one of that line
 abbrev pub ScriptsAreRefused : Type 0
 ScriptsAreRefused = (bytes : List ℕ) (refusal : Refusal) → (script_of bytes ≡ Err refusal) ↔ IsRefused bytes refusal
+
+-- each text is one script, or is refused for one reason, and never both
+abbrev pub TextsHaveOneReading : Type 0
+TextsHaveOneReading = (bytes : List ℕ) → ((script : Script) × IsOnlyScript bytes script) ⊎ ((refusal : Refusal) × IsOnlyRefusal bytes refusal)

@@ -62,6 +62,18 @@ pub record IsRefused (bytes : List ℕ) (refusal : Refusal) : Type 0 where
   pub said : SayLines before entries
   pub cause : HasCause refusal.line (first_thread (calls_of entries)) line refusal.cause
 
+-- the bytes are this script alone, and aren't refused
+pub record IsOnlyScript (bytes : List ℕ) (script : Script) : Type 0 where
+  pub is : IsScript bytes script
+  pub only : (other : Script) → IsScript bytes other → other ≡ script
+  pub not_refused : (refusal : Refusal) → ¬ IsRefused bytes refusal
+
+-- the bytes are refused for this alone, and are no script
+pub record IsOnlyRefusal (bytes : List ℕ) (refusal : Refusal) : Type 0 where
+  pub is : IsRefused bytes refusal
+  pub only : (other : Refusal) → IsRefused bytes other → other ≡ refusal
+  pub no_script : (script : Script) → ¬ IsScript bytes script
+
 -- what a text is found to be: a script, or refused; memory may run out
 abbrev pub Parses : List ℕ → Result Script ScriptErr → Type 0
 Parses bytes (Ok script) = IsScript bytes script

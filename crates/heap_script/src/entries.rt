@@ -1,5 +1,6 @@
 //! What a line says.
-ghost use Rattle.std.specs.Prelude.{◌≡◌, ◌≤◌, IfOk, IfSome, IfNone, Some, None};
+ghost use Rattle.std.specs.Prelude.{◌≡◌, ◌≤◌, true, IfOk, IfSome, IfNone, Some, None};
+ghost use Rattle.std.specs.Str.{IsUtf8, is_utf8};
 ghost use Rattle.az_words.specs.Words.{words_of};
 ghost use Rattle.heap_script.specs.Lines.{is_skipped};
 ghost use Rattle.heap_script.specs.Refusals.{after_option};
@@ -144,18 +145,28 @@ fn option_or_call(alloc: Global, only: Option<ThreadNo>, line: &[u8]) -> Result<
     }
 }
 
+/// The line is text, where that isn't known of the whole script already.
+fn is_text_line(all_text: bool, line: &[u8]) -> bool
+    requires { all_text ≡ true → IsUtf8 line.now }
+    ensures { result ≡ is_utf8 line.now }
+{
+    all_text || is_text(line)
+}
+
 /// What the line of this number says, after call lines of this thread. O(bytes).
 #[tactic(auto, unfolding(crate::specs::Reading::Scripts::entry_of))]
 pub fn read_entry(
     alloc: Global,
     number: u32,
     only: Option<ThreadNo>,
+    all_text: bool,
     line: &[u8],
 ) -> Result<Entry, LineErr>
+    requires { all_text ≡ true → IsUtf8 line.now }
     ensures says { Gives result (entry_of number only line.now) }
     ensures few { IfOk result (λ _. number ≤ 65536) }
 {
-    if !is_text(line) {
+    if !is_text_line(all_text, line) {
         return Err(LineErr::Cause(Cause::NotText));
     }
     if line.len() > MOST_BYTES {

@@ -1,6 +1,6 @@
 //! Laws that say what is read apart from how: exactly the scripts of the grammar are read, and all else is refused at the
 //! first line that lacks what the grammar wants.
-ghost use Rattle.heap_script.specs.Laws.{LinesAreRead, LinesAreRefused, OptionsAreRead, OptionsAreRefused, ScriptsAreRead, ScriptsAreRefused};
+ghost use Rattle.heap_script.specs.Laws.{LinesAreRead, LinesAreRefused, OptionsAreRead, OptionsAreRefused, ScriptsAreRead, ScriptsAreRefused, TextsHaveOneReading};
 
 use az_words::numbers_are_read;
 use call_words::{arguments_are_read, names_are_read};
@@ -53,4 +53,12 @@ pub fn scripts_are_refused()
     lines_are_refused();
     options_are_read();
     options_are_refused();
+}
+
+/// Each text is one script, or is refused at one line for one cause, and never both.
+pub fn texts_have_one_reading()
+    ensures { TextsHaveOneReading }
+{
+    scripts_are_read();
+    scripts_are_refused();
 }

@@ -18,7 +18,7 @@ mod setting;
 pub use cause::{Cause, ScriptErr};
 pub use laws::{
     lines_are_read, lines_are_refused, options_are_read, options_are_refused, scripts_are_read,
-    scripts_are_refused,
+    scripts_are_refused, texts_have_one_reading,
 };
 pub use line::{Line, LineList};
 pub use reading::parse;

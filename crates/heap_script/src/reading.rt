@@ -10,7 +10,7 @@ use crate::laws::{scripts_are_read, scripts_are_refused};
 use crate::line::{Line, LineList};
 use crate::script::Script;
 use az_base::{Options, ThreadNo};
-use az_words::next_line;
+use az_words::{is_text, next_line};
 use call_words::collect_names_are_read;
 use std::alloc::Global;
 
@@ -25,7 +25,8 @@ fn first_thread(lines: &[Line]) -> Option<ThreadNo>
 }
 
 /// The script that the bytes are. Refused exactly where they are none, with the first line that has a cause and the
-/// first cause of that line. A last line needs no line feed. O(bytes).
+/// first cause of that line. A last line needs no line feed. O(bytes): that the whole is text is tried once, and line by
+/// line only where it isn't.
 pub fn parse(alloc: Global, bytes: &[u8]) -> Result<Script, ScriptErr>
     ensures gives { Parses bytes.now result }
     ensures reads { IsRead bytes.now result }
@@ -36,13 +37,14 @@ pub fn parse(alloc: Global, bytes: &[u8]) -> Result<Script, ScriptErr>
     scripts_are_read();
     scripts_are_refused();
     collect_names_are_read();
+    let all_text = is_text(bytes);
     let mut options = Options::usual();
     let mut lines = Vec::new(alloc);
     let mut number = 0u32;
     let mut rest = bytes;
     'lines: while let Some((line, after)) = next_line(rest) {
         number += 1;
-        match read_entry(alloc, number, first_thread(&lines), line) {
+        match read_entry(alloc, number, first_thread(&lines), all_text, line) {
             Ok(Entry::Nothing) => {}
             Ok(Entry::Set(setting)) => options = setting.onto(options),
             Ok(Entry::Call(line)) => lines.push(line)?,

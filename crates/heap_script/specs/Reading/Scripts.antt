@@ -1,5 +1,5 @@
 -- What a script says, or the first cause of its first line that has one, as it is read
-use Rattle.std.specs.Prelude.{◌≡◌, ℕ, ◌+◌, true, List, [], ◌∷◌, length, ◌==◌, nat_lt, if◌then◌else◌, Option, Some, None, Result, Ok, Err, not}
+use Rattle.std.specs.Prelude.{◌≡◌, ℕ, ◌+◌, List, [], ◌∷◌, length, ◌==◌, nat_lt, if◌then◌else◌, Option, Some, None, Result, Ok, Err, not}
 use Rattle.std.specs.Str.{is_utf8}
 use Rattle.az_base.specs.OptionRanges.{usual_options}
 use Rattle.az_words.specs.Lines.{lines_of}

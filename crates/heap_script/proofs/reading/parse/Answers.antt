@@ -1,4 +1,5 @@
 use Rattle.std.proofs.Common.{◌≡◌, ◌+◌, Result, Ok, Err, sym, ap, ◌∙◌, arith}
+use Rattle.std.proofs.lemmas.Str.{IsUtf8-from_is_utf8}
 use Rattle.az_words.specs.Lines.{lines_of}
 use Rattle.heap_script.specs.declared.cause.Cause.{Cause}
 use Rattle.heap_script.specs.declared.entries.Entry.{Entry}
@@ -11,7 +12,7 @@ use Rattle.heap_script.proofs.Found.{found}
 use Rattle.heap_script.proofs.reading.parse.Goals as goal
 
 pub lines-init : goal.lines-init
-lines-init c = record { read = rw (c.usual-options.ensures, c.new-lines.ensures.items) (at_start c.args.bytes.now); few = omega arith }
+lines-init c = record { read = rw (c.usual-options.ensures, c.new-lines.ensures.items) (at_start c.args.bytes.now); few = omega arith; text = λ is. IsUtf8-from_is_utf8 c.args.bytes.now (sym c.is_text-all_text.ensures ∙ is) }
 
 pub returns-in-Err-clause-reads : goal.returns-in-Err-clause-reads
 returns-in-Err-clause-reads c =
@@ -32,6 +33,7 @@ lines-preserved-in-Ok-Nothing c =
       read = says_at c.lines.options front (c.lines.number + 1) (lines_of c.in-Some.after.now) (lines_of c.lines.rest.now) c.in-Some.line.now entry.Nothing (script_of c.args.bytes.now)
           c.in-Some.ensures.some e c.lines.invariant.read;
       few = omega (arith, c.in-Ok-Nothing.ensures.few);
+      text = λ is. (c.in-Some.ensures.text (c.lines.invariant.text is)).1;
     }
 
 pub lines-preserved-in-Ok-Set : goal.lines-preserved-in-Ok-Set
@@ -45,6 +47,7 @@ lines-preserved-in-Ok-Set c =
           (says_at c.lines.options front (c.lines.number + 1) (lines_of c.in-Some.after.now) (lines_of c.lines.rest.now) c.in-Some.line.now (entry.Set set) (script_of c.args.bytes.now)
           c.in-Some.ensures.some e c.lines.invariant.read);
       few = omega (arith, c.in-Ok-Set.ensures.few);
+      text = λ is. (c.in-Some.ensures.text (c.lines.invariant.text is)).1;
     }
 
 pub lines-preserved : goal.lines-preserved
@@ -58,6 +61,7 @@ lines-preserved c =
           (says_at c.lines.options front (c.lines.number + 1) (lines_of c.in-Some.after.now) (lines_of c.lines.rest.now) c.in-Some.line.now (entry.Call call) (script_of c.args.bytes.now)
           c.in-Some.ensures.some e c.lines.invariant.read);
       few = omega (arith, c.in-Ok-Call.ensures.few);
+      text = λ is. (c.in-Some.ensures.text (c.lines.invariant.text is)).1;
     }
 
 pub returns-clause-reads : goal.returns-clause-reads
@@ -76,3 +80,6 @@ returns-clause-one_thread c = one_thread c.args.bytes.now (record { options = c.
 
 pub returns-clause-built : goal.returns-clause-built
 returns-clause-built c = all_built c.collect_names_are_read.ensures c.args.bytes.now (record { options = c.lines.options; lines = c.from_vec.result }) (returns-clause-gives c)
+
+pub read_entry-requires : goal.read_entry-requires
+read_entry-requires c = λ is. (c.in-Some.ensures.text (c.lines.invariant.text is)).0
