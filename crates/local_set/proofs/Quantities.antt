@@ -11,7 +11,8 @@ use Rattle.az_base.specs.Ids.{id_cmp, same_id, ids_total, exact_ids}
 use Rattle.block_layouts.specs.declared.layout.Layout.{Layout}
 use Rattle.block_layouts.specs.declared.layout.Shape.TheVariants as shape
 use Rattle.block_layouts.specs.Layouts.{len_of, quanta, first_words, first_word}
-use Rattle.zone_model.specs.Maps.{total, total-insert, at_value}
+use Rattle.zone_model.specs.Maps.{total}
+use Rattle.zone_model.proofs.MapLaws.{total-insert, at_value}
 use Rattle.zone_model.specs.State.{Block, referent, with_edit}
 use Rattle.zone_model.specs.Quanta.{quanta_where}
 use Rattle.zone_model.specs.Part.{own_block}

@@ -36,9 +36,9 @@ pub record Replaced (old new : References) (from to : Option BlockId) : Type 0 w
   pub counts : (q : BlockId) → count_in new q + one_if q from ≡ count_in old q + one_if q to
   pub changed : new.changed.items ≡ old.changed.items ++ list_of from ++ list_of to
 
--- no count is above the words that a thread's unescaped blocks may have
+-- no count is above the words that a thread's unescaped blocks may have, with one more while a store is under way
 abbrev pub IsBounded : References → Type 0
-IsBounded r = (q : BlockId) → count_in r q ≤ 131072
+IsBounded r = (q : BlockId) → count_in r q ≤ 131073
 
 -- what the fields of a table of blocks keep
 pub record IsTable (b : Inside) : Type 0 where

@@ -78,7 +78,7 @@ impl Blocks {
     /// In how many words the block stands. O(1) expected.
     pub fn holds(&self, id: BlockId) -> u32
         ensures value { result ≡ word_holds (blocks_of self.now.list) id }
-        ensures range { result ≤ 131072 }
+        ensures range { result ≤ 131073 }
     {
         self.references.count(id)
     }

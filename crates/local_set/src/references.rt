@@ -20,8 +20,8 @@ pub struct References {
     changed: Vec<BlockId>,
 }
 
-/// More words than the unescaped blocks of a thread can have.
-const MOST: u32 = 131_072;
+/// As many words as the unescaped blocks of a thread can have, and one more while a store is under way.
+const MOST: u32 = 131_073;
 
 impl References {
     ghost use Rattle.local_set.specs.Counting.{count_in, IsCounted, list_of, referents, SameCounts, Replaced, IsBounded};

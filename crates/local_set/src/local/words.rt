@@ -68,7 +68,8 @@ impl Local {
     /// The call `load`: a register gets the reference in a Strong word of an unescaped block. O(1) expected.
     pub fn load(&mut self, to: Reg, from: Reg, at: u32) -> Result<Reply, LocalErr>
         requires { self.old.ended ≡ false }
-        ensures { Answers self.old self.new (call.Load to from at) result }
+        ensures answer { Answers self.old self.new (call.Load to from at) result }
+        ensures sure { NeedsRoom self.old result }
     {
         let holder = &self.register(from);
         if !self.is_within(*holder) {

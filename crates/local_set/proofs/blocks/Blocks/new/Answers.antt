@@ -1,6 +1,6 @@
 use Rattle.std.proofs.Common.{ap, sym, ◌∙◌, arith}
 use Rattle.az_base.specs.Ids.{id_cmp}
-use Rattle.zone_model.specs.Maps.{total-empty}
+use Rattle.zone_model.proofs.MapLaws.{total-empty}
 use Rattle.retain_table.specs.Counted.{count_of}
 use Rattle.local_set.specs.LocalSets.{blocks_of}
 use Rattle.local_set.specs.Holds.{word_holds}

@@ -1,7 +1,7 @@
 use Rattle.std.proofs.Common.{◌≡◌, ap, ◌∙◌, arith}
 use Rattle.std.specs.FinMap.{get}
 use Rattle.az_base.specs.Ids.{id_cmp, id_of}
-use Rattle.zone_model.specs.Maps.{total-empty}
+use Rattle.zone_model.proofs.MapLaws.{total-empty}
 use Rattle.zone_model.specs.Part.{opening_part}
 use Rattle.local_set.specs.LocalSets.{blocks_of}
 use Rattle.local_set.proofs.Tables.{none_there, no_blocks}
