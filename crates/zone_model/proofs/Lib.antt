@@ -36,6 +36,7 @@ pub mod CycleCalls
 pub mod ReachedChanges
 pub mod Reaching
 pub mod BlocksFit
+pub mod Limits
 pub mod Soundness
 pub mod Ascending
 pub mod AtOnce

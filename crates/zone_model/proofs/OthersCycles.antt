@@ -1,5 +1,5 @@
 -- What others do leaves a thread's cycle as it was
-use Rattle.std.proofs.Common.{◌≡◌, ℕ, ◌==◌, Bool, true, false, cond, not, ◌&&◌, ◌||◌, List, [], ◌∷◌, Option, Some, None, MatchOption, IsTrue, refl, sym, ap, subst, ◌∙◌, is_some, eq-eqb, fold, slice_set, ◌⊎◌, inl, inr}
+use Rattle.std.proofs.Common.{◌≡◌, ℕ, ◌==◌, Bool, true, false, cond, not, ◌&&◌, ◌||◌, List, [], ◌∷◌, Option, Some, None, MatchOption, IsTrue, refl, sym, ap, subst, ◌∙◌, is_some, eq-eqb, slice_set, ◌⊎◌, inl, inr}
 use Rattle.std.specs.List.{list_any}
 use Rattle.std.specs.Option.{option_map, option_map_or}
 use Rattle.std.specs.declared.cmp.Ordering.{Ordering}
@@ -7,10 +7,8 @@ use Rattle.std.specs.declared.cmp.Ordering.TheVariants.{Less, Equal, Greater}
 use Rattle.std.specs.Ordering.{is_eq}
 use Rattle.std.specs.FinMap.{FinMap, get, get-insert}
 use Rattle.az_base.specs.declared.action.Action.{Action}
-use Rattle.az_base.specs.declared.action.Action.TheVariants as action
 use Rattle.az_base.specs.declared.block_id.BlockId.{BlockId}
 use Rattle.az_base.specs.declared.misuse.Misuse.{Misuse}
-use Rattle.az_base.specs.declared.options.Options.{Options}
 use Rattle.az_base.specs.declared.word.Word.{Word}
 use Rattle.az_base.specs.declared.word.Word.TheVariants as word
 use Rattle.az_base.specs.Ids.{id_cmp, id_of, same_id, among, ids_total, exact_ids}
@@ -22,17 +20,17 @@ use Rattle.zone_model.specs.declared.entry.Entry.{Entry}
 use Rattle.zone_model.specs.State.{State, Block, Cycle, moment, with_edit, with_word, with_count, with_assoc, with_weak, without_blocks, reference, is_nil, is_escaped, is_own}
 use Rattle.zone_model.specs.Escape.{with_escaped}
 use Rattle.zone_model.specs.Misuses.{misuse_of}
-use Rattle.zone_model.specs.Collection.{HasCycle, awaits, with_action, actions_of}
+use Rattle.zone_model.specs.Collection.{HasCycle, awaits, actions_of}
 use Rattle.zone_model.specs.Effect.{Effect, new_block, with_new, weak_loc}
 use Rattle.zone_model.specs.Step.{Step, Happens, seen_now, with_moment}
-use Rattle.zone_model.specs.History.{is_cycle_step, Run, Ends}
-use Rattle.zone_model.proofs.Made.{AllMade, step_made}
+use Rattle.zone_model.specs.History.{is_cycle_step, Run}
+use Rattle.zone_model.proofs.Made.{AllMade, step_made, actions_same}
 use Rattle.zone_model.proofs.Intact.{Intact}
 use Rattle.zone_model.specs.Phases.{SameCycle, CycleStays, NoneOf}
 use Rattle.zone_model.proofs.Blocks.{not_both, own_inside, there_out, edit_get, left_get, escape_at, got_escaped}
 use Rattle.zone_model.proofs.IntactEscapes.{escape_intact}
 use Rattle.zone_model.proofs.IntactCycles.{condemned_out}
-use Rattle.zone_model.proofs.IntactSteps.{next_free, escaped_made, step_intact, ends_intact}
+use Rattle.zone_model.proofs.IntactSteps.{next_free, escaped_made, step_intact}
 
 -- a block waits for its finaliser
 abbrev waits_of : Option Block → Bool
@@ -130,11 +128,6 @@ module _ (z : State) (s : Intact z) (u t : ℕ) where
   plain : (a : State) → a.cycle ≡ z.cycle → a.blocks ≡ z.blocks → CycleStays t z a
   plain a same blocks = kept t z a s same (λ b out. ap (λ (m : FinMap id_cmp Block). waits_of (get m b)) blocks)
 
-  actions_cycle : (b : BlockId) (actions : List Action) (y : State) → (fold (with_action b) y actions).cycle ≡ y.cycle
-  actions_cycle b [] y = refl
-  actions_cycle b (action.Keep g ∷ more) y = actions_cycle b more (with_action b y (action.Keep g))
-  actions_cycle b (action.Pass g at ∷ more) y = actions_cycle b more (with_action b y (action.Pass g at))
-
   effect_stays : (c : Call) (r : Reply) (a : State) → IsApart u t c → get z.blocks (id_of u (z.serials u)) ≡ None → Effect z u c r a → CycleStays t z a
   effect_stays (call.New to layout actions) (reply.Block id) a apart free h = subst (CycleStays t z) (sym h.1) (new_stays to layout actions free)
   effect_stays (call.Load to from at) (reply.Block b) a apart free h = subst (CycleStays t z) (sym h.1) (plain _ refl refl)
@@ -163,7 +156,7 @@ module _ (z : State) (s : Intact z) (u t : ℕ) where
   effect_stays call.Condemn (reply.Condemned r) a (inl n) free h = cc (n)
   effect_stays call.Condemn (reply.Condemned r) a (inr other) free h = neither other a h.0 h.1 (λ d has. one_owner a u t _ d other (ap (λ (y : State). y.cycle) h.4, h.1.1) has)
   effect_stays call.Finalise (reply.Finalised b) a (inl n) free h = cc (n)
-  effect_stays call.Finalise (reply.Finalised b) a (inr other) free h = neither other a h.1.0 h.1.1 (λ d has. one_owner a u t h.1.0 d other (ap (λ (y : State). y.cycle) h.3 ∙ actions_cycle b (actions_of z b) z ∙ h.1.1.0, h.1.1.1) has)
+  effect_stays call.Finalise (reply.Finalised b) a (inr other) free h = neither other a h.1.0 h.1.1 (λ d has. one_owner a u t h.1.0 d other (ap (λ (y : State). y.cycle) h.3 ∙ (actions_same b (actions_of z b) z).2 ∙ h.1.1.0, h.1.1.1) has)
   effect_stays call.Reclaim (reply.Settled gone kept) a (inl n) free h = cc (n)
   effect_stays call.Reclaim (reply.Settled gone kept) a (inr other) free h = neither other a h.condemned.0 h.condemned.1 (λ d has. let no : None ≡ Some d = sym (ap (λ (y : State). y.cycle) h.does) ∙ has.0 in cc (no))
   effect_stays call.Leave (reply.Reclaimed gone) a apart free h = subst (CycleStays t z) (sym h.does) (gone_stays _ gone.list refl refl (λ q taken. (h.gone_ones.1 q).0 taken))
@@ -229,7 +222,3 @@ run_stays z [] a t s made run none = subst (CycleStays t z) (sym run) (stays_sam
 run_stays z (e ∷ es) a t s made run none =
     stays_on t z run.0 a (step_stays z e run.0 t s made run.1 (inr (or_first (e.thread == t) (list_any (λ e. e.thread == t) es) none)))
     (run_stays run.0 es a t (step_intact z e run.0 s made run.1) (step_made z e run.0 run.1 made) run.2 (or_second (e.thread == t) (list_any (λ e. e.thread == t) es) none))
-
--- the law Cycle
-pub cycle_law : (o : Options) (history later : List Entry) (y z : State) (t : ℕ) → Ends o history y → Run y later z → NoneOf t later → CycleStays t y z
-cycle_law o history later y z t ends run none = let s = ends_intact o history y ends in run_stays y later z t s.0 s.1 run none

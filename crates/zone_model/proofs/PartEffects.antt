@@ -18,6 +18,7 @@ use Rattle.zone_model.specs.Effect.{Effect, with_new, weak_loc}
 use Rattle.zone_model.specs.Part.{Part, part_of, put_register, put_word, put_new, part_after}
 use Rattle.zone_model.specs.Sound.{Knows}
 use Rattle.zone_model.proofs.Intact.{Intact}
+use Rattle.zone_model.proofs.Made.{actions_same}
 use Rattle.zone_model.proofs.Blocks.{is_out, not_both, own_inside, own_thread}
 use Rattle.zone_model.proofs.IntactCycles.{found_among, condemned_out}
 use Rattle.zone_model.proofs.PartChanges.{edited_part, edited_others, left_part, left_others, left_none, new_part, new_others}
@@ -70,15 +71,10 @@ actions_part b [] z u = refl
 actions_part b (action.Keep g ∷ more) z u = actions_part b more (with_action b z (action.Keep g)) u
 actions_part b (action.Pass g at ∷ more) z u = actions_part b more (with_action b z (action.Pass g at)) u
 
-actions_blocks : (b : BlockId) (actions : List Action) (z : State) → (fold (with_action b) z actions).blocks ≡ z.blocks
-actions_blocks b [] z = refl
-actions_blocks b (action.Keep g ∷ more) z = actions_blocks b more (with_action b z (action.Keep g))
-actions_blocks b (action.Pass g at ∷ more) z = actions_blocks b more (with_action b z (action.Pass g at))
-
 finalise_part : (z : State) (b : BlockId) (u : ℕ) → IsTrue (is_escaped z b) → part_of (with_finalised (fold (with_action b) z (actions_of z b)) b) u ≡ part_of z u
 finalise_part z b u out =
     let y = fold (with_action b) z (actions_of z b) in
-    ap (λ m. record (part_of y u) { blocks = m }) (edited_others y u b (λ k. record k { finalised = true }) (λ k. refl) (out_not_own y u b (ap (λ (m : FinMap id_cmp Block). is_out (get m b)) (actions_blocks b (actions_of z b) z) ∙ out)))
+    ap (λ m. record (part_of y u) { blocks = m }) (edited_others y u b (λ k. record k { finalised = true }) (λ k. refl) (out_not_own y u b (ap (λ (m : FinMap id_cmp Block). is_out (get m b)) ((actions_same b (actions_of z b) z).1) ∙ out)))
     ∙ actions_part b (actions_of z b) z u
 
 module _ (z : State) (s : Intact z) (t : ℕ) where

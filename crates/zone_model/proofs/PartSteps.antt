@@ -89,6 +89,6 @@ opening_is o t = ap (λ m. record (opening_part o) { blocks = m }) (are_blocks (
     nothing true = refl
     nothing false = refl
 
--- the law Parts
+-- over a whole history
 pub parts_law : (o : Options) (history : List Entry) (z : State) (t : ℕ) → Ends o history z → Solo o (entries_of t history) (part_of z t)
 parts_law o history z t ends = subst (λ p. PartRun p (entries_of t history) (part_of z t)) (opening_is o t) (run_part (opening o) history z t (opening_intact o) (opening_made o) ends)

@@ -1,7 +1,5 @@
 -- Each step keeps that an open cycle keeps what it has reached
-use Rattle.std.proofs.Common.{◌≡◌, ℕ, Bool, true, false, Option, Some, None, List, [], ◌∷◌, MatchOption, fold, refl, sym, subst, ◌∙◌, ◌⊎◌, inl, inr}
-use Rattle.az_base.specs.declared.action.Action.{Action}
-use Rattle.az_base.specs.declared.action.Action.TheVariants as action
+use Rattle.std.proofs.Common.{◌≡◌, ℕ, Bool, true, false, Option, Some, None, MatchOption, refl, sym, subst, ◌∙◌, ◌⊎◌, inl, inr}
 use Rattle.az_base.specs.declared.action.Mode.{Mode}
 use Rattle.az_base.specs.declared.block_id.BlockId.{BlockId}
 use Rattle.az_base.specs.declared.misuse.Misuse.{Misuse}
@@ -11,13 +9,14 @@ use Rattle.zone_model.specs.declared.entry.Entry.{Entry}
 use Rattle.zone_model.specs.declared.entry.Reply.{Reply}
 use Rattle.zone_model.specs.declared.entry.Reply.TheVariants as reply
 use Rattle.zone_model.specs.State.{State, moment, with_cycle}
-use Rattle.zone_model.specs.Collection.{new_cycle, with_action, actions_of}
+use Rattle.zone_model.specs.Collection.{new_cycle, actions_of}
 use Rattle.zone_model.specs.Effect.{Effect}
 use Rattle.zone_model.specs.Escape.{with_escaped}
 use Rattle.zone_model.specs.Misuses.{misuse_of}
 use Rattle.zone_model.specs.Step.{Step, Happens, seen_now}
 use Rattle.zone_model.specs.History.{is_cycle_step}
 use Rattle.zone_model.specs.Reached.{KeepsReached, OpenReached, IsRooted}
+use Rattle.zone_model.proofs.Made.{actions_same}
 use Rattle.zone_model.proofs.Intact.{Intact}
 use Rattle.zone_model.proofs.Blocks.{out_or_inside}
 use Rattle.zone_model.proofs.CycleCalls.{effect_cycle}
@@ -30,12 +29,6 @@ pub edges_rooted : (z : State) → Intact z → IsRooted z
 edges_rooted z s a b (inl (block, i, here, is)) = out_or_inside (_) block here
 edges_rooted z s a b (inr (key, is)) = inl (s.names.objects a key b is)
 
--- a finaliser leaves the cycle
-actions_cycle : (b : BlockId) (xs : List Action) (z : State) → (fold (with_action b) z xs).cycle ≡ z.cycle
-actions_cycle b [] z = refl
-actions_cycle b (action.Keep g ∷ xs) z = actions_cycle b xs (with_action b z (action.Keep g))
-actions_cycle b (action.Pass g at ∷ xs) z = actions_cycle b xs (with_action b z (action.Pass g at))
-
 begin_reached : (z : State) (t : ℕ) (m : Mode) (r : Reply) (mid : State) → IsRooted z → Effect z t (call.Begin m) r mid → OpenReached (seen_now mid)
 begin_reached z t m reply.Begun mid rooted h = subst (λ y. OpenReached (seen_now y)) (sym h.1) (λ c is uncondemned.
     any_cycle z (seen_now (with_cycle z (Some (new_cycle z t m)))).cycle c (subst (KeepsReached z) (the_cycle (seeing (moment z) (new_cycle z t m)) c is) (keeps_opening z t m rooted)))
@@ -46,7 +39,7 @@ condemn_reached z t (reply.Condemned r) mid h = subst (λ y. OpenReached (seen_n
 condemn_reached z t _ mid h = absurd h
 
 finalise_reached : (z : State) (t : ℕ) (r : Reply) (mid : State) → Effect z t call.Finalise r mid → OpenReached (seen_now mid)
-finalise_reached z t (reply.Finalised b) mid h = subst (λ y. OpenReached (seen_now y)) (sym h.3) (open_condemned _ h.0 h.1.0 (actions_cycle b (actions_of z b) z ∙ h.1.1.0) h.1.2)
+finalise_reached z t (reply.Finalised b) mid h = subst (λ y. OpenReached (seen_now y)) (sym h.3) (open_condemned _ h.0 h.1.0 ((actions_same b (actions_of z b) z).2 ∙ h.1.1.0) h.1.2)
 finalise_reached z t _ mid h = absurd h
 
 reclaim_reached : (z : State) (t : ℕ) (r : Reply) (mid : State) → Effect z t call.Reclaim r mid → OpenReached (seen_now mid)

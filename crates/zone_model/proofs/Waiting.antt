@@ -116,7 +116,7 @@ local_own p t e after k = by_misuse (misuse_within p e.call) k.does
     by_misuse None h = replied_own p t e.call e.reply after k.local h.0 h.1
     by_misuse (Some m) h = subst (λ r. PartStep p e.call r after) (sym h.0) h.1
 
--- so the part after waiting entries is the thread's own, as the law Parts has it
+-- so the part after waiting entries is what the thread's entries make of it
 pub waiting_own : (p : Part) (t : ℕ) (es : List Entry) (last : Part) → LocalRun p t es last → PartRun p es last
 waiting_own p t [] last run = run
 waiting_own p t (e ∷ es) last run = (run.0, local_own p t e run.0 run.1, waiting_own run.0 t es last run.2)
