@@ -1,5 +1,11 @@
-//! What the collector notes of a block.
+//! What the collector notes of a block, and the byte that tells it.
+ghost use Rattle.std.specs.Prelude.{◌≡◌, ◌≤◌, ◌<◌, ⊤, [], ◌∷◌, ◌/◌, ◌%◌, ◌==◌, codes};
+ghost use Rattle.std.specs.Int.RustNames.{bit_and};
+ghost use Rattle.quantum_space.specs.declared.admin.Admin.{Admin as AnAdmin};
+ghost use Rattle.quantum_space.specs.AdminBytes.{admin_byte, admin_of, flag_bits, shade_bits, shade_of};
+
 use crate::shade::Shade;
+use bitflags::{Flag, Flags, bitflag_items};
 
 /// A block's shade, its age in collections up to 3, whether it is remembered as one that may refer to younger ones, and
 /// whether its finaliser has run.
@@ -10,3 +16,112 @@ pub struct Admin {
     pub card: bool,
     pub finalised: bool,
 }
+
+/// The named bits of an admin byte.
+#[derive(Clone, Copy, Debug, PartialEq, Eq)]
+pub struct AdminFlags(u8);
+
+bitflag_items! {
+    impl AdminFlags: u8 {
+        const CARD = 32;
+        const FINALISED = 64;
+        const IN_USE = 128;
+    }
+}
+
+impl Flags for AdminFlags {
+    type Bits = u8;
+
+    ghost exact = { ⊤ };
+
+    ghost table = { (codes "CARD", 32) ∷ (codes "FINALISED", 64) ∷ (codes "IN_USE", 128) ∷ [] };
+
+    ghost set_of = { λ f. f.0 };
+
+    fn flags<'a>() -> &'a [Flag<AdminFlags>] {
+        AdminFlags::FLAGS
+    }
+
+    fn bits(&self) -> u8 {
+        self.0
+    }
+
+    fn from_bits_retain(bits: u8) -> AdminFlags {
+        AdminFlags(bits)
+    }
+}
+
+impl Admin {
+    /// The byte of a quantum that begins a block with this to be noted: the shade in bits 0 and 1, the age in bits 2 to
+    /// 4, and the flags card, finalised and in use in bits 5, 6 and 7. O(1).
+    pub fn to_byte(self) -> u8
+        requires { self.age ≤ 3 }
+        ensures { result ≡ admin_byte self }
+    {
+        shade_bits(self.shade) + 4 * self.age + flags_of(self.card, self.finalised)
+    }
+
+    /// What the byte of a quantum that begins a block tells. O(1).
+    pub fn from_byte(byte: u8) -> Admin
+        ensures { result ≡ admin_of byte }
+    {
+        Admin {
+            shade: shade_of(byte % 4),
+            age: byte / 4 % 8,
+            card: has(byte, AdminFlags::CARD),
+            finalised: has(byte, AdminFlags::FINALISED),
+        }
+    }
+}
+
+/// The two bits of a shade.
+fn shade_bits(shade: Shade) -> u8
+    ensures { result ≡ shade_bits shade }
+{
+    match shade {
+        Shade::White => 0,
+        Shade::Grey => 1,
+        Shade::Black => 2,
+    }
+}
+
+/// The shade that a number tells.
+fn shade_of(bits: u8) -> Shade
+    ensures { result ≡ shade_of bits }
+{
+    if bits == 1 {
+        Shade::Grey
+    } else if bits == 2 {
+        Shade::Black
+    } else {
+        Shade::White
+    }
+}
+
+/// The flags of a block's first quantum.
+fn flags_of(card: bool, finalised: bool) -> u8
+    ensures { result ≡ flag_bits card finalised }
+{
+    let used = AdminFlags::IN_USE;
+    match (card, finalised) {
+        (false, false) => used.bits(),
+        (true, false) => used.union(AdminFlags::CARD).bits(),
+        (false, true) => used.union(AdminFlags::FINALISED).bits(),
+        (true, true) => used
+            .union(AdminFlags::CARD)
+            .union(AdminFlags::FINALISED)
+            .bits(),
+    }
+}
+
+/// Whether a byte has a flag.
+fn has(byte: u8, flag: AdminFlags) -> bool
+    ensures { result ≡ (bit_and byte flag.0 == flag.0) }
+{
+    AdminFlags::from_bits_retain(byte).contains(flag)
+}
+
+/// A byte tells what was noted in it.
+pub fn bytes_tell_what_was_noted()
+    ensures { (a : AnAdmin) → a.age ≤ 3 → admin_of (admin_byte a) ≡ a }
+{}

@@ -1,5 +1,8 @@
-//! The blocks of a space as a collection sees them: where a block lies, what the collector notes of it, and the graph
-//! that a collection walks.
+//! Where blocks lie, what the collector notes of each, and the graph that a collection walks.
+//!
+//! Memory is cut into subzones of quanta, each with one admin byte, as in libauto. A `Region` has the subzones of one
+//! kind with their blocks. A block comes to lie in the first hole that is long enough, in the first subzone that has one;
+//! its words begin at its first quantum. `Admin` is what the byte of that quantum tells.
 //!
 //! A `Graph` tells the blocks that were there as a cycle began, what anchors them and who refers to whom, and keeps a
 //! shade for each block. A contract sees it in three parts: its `shape`, which no collection changes; its shades; and
@@ -10,13 +13,17 @@
 #![tactic(auto)]
 
 mod admin;
+mod admin_map;
 mod graph;
 mod greys;
+mod holes;
 mod place;
+mod region;
 mod shade;
 
-pub use admin::Admin;
+pub use admin::{Admin, AdminFlags, bytes_tell_what_was_noted};
 pub use graph::{Found, Graph};
 pub use greys::Greys;
 pub use place::{Place, places_are_ordered_by_subzone};
+pub use region::{Region, blocks_lie_apart};
 pub use shade::Shade;
