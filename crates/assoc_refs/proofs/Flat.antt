@@ -1,47 +1,24 @@
 -- The lists of all objects as one finite map
-use Rattle.std.proofs.Common.{◌≡◌, ℕ, ◌+◌, ◌==◌, ◌&&◌, ◌||◌, Bool, true, false, not, cond, T, List, [], ◌∷◌, ◌++◌, map, length, slice_get, Option, Some, None, refl, sym, ap, subst, ◌∙◌, suc, arith, true≢false}
-use Rattle.std.proofs.lemmas.Bool.Decides.{nat_tests}
-use Rattle.std.proofs.lemmas.Grind.{common_steps}
+use Rattle.std.proofs.Common.{◌≡◌, ℕ, ◌+◌, ◌&&◌, ◌||◌, Bool, true, false, not, cond, T, List, [], ◌∷◌, ◌++◌, map, length, slice_get, Option, Some, None, refl, sym, ap, subst, ◌∙◌, suc, arith, true≢false}
+use Rattle.std.proofs.lemmas.Map.Keys.{IsDistinct-tail}
 use Rattle.std.proofs.lemmas.Option.{slice_get-map}
 use Rattle.std.specs.List.{list_any, IsDistinct}
 use Rattle.std.specs.Map.{lookup, keys_of}
 use Rattle.std.specs.Option.{option_map}
 use Rattle.std.specs.declared.cmp.Ordering.{Ordering}
-use Rattle.std.specs.declared.cmp.Ordering.TheVariants.{Less, Equal, Greater}
 use Rattle.std.specs.Ordering.{nat_cmp, ordering_then, is_lt, is_eq, eq_by_cmp}
-use Rattle.std.specs.Cmp.{IsTotalOrder, nat_cmp_total, eq_by_cmp_equiv, tied_itself}
-use Rattle.std.specs.FinMap.{FinMap, IsAntisymmetric, is_sorted, find, entries, entries_sorted, same_map, get, retain_keys, empty, len, get-empty, get-entries, get-from_entries, get-insert, get-remove, get-retain_keys, len-entries, len-empty}
+use Rattle.std.specs.Cmp.{IsTotalOrder, nat_cmp_total, tied_itself, tied_then}
+use Rattle.std.specs.FinMap.{FinMap, IsAntisymmetric, is_sorted, find, entries, entries_sorted, same_map, get, retain_keys, empty, len, get-empty, get-entries, get-from_entries, get-retain_keys, len-entries, len-empty}
 use Rattle.std.specs.FinMap.Entries.{below_all, where_key, is_sorted-where_key, find-where_key, same_entries}
 use Rattle.az_base.specs.declared.block_id.BlockId.{BlockId}
 use Rattle.az_base.specs.declared.numbers.Key.{Key}
-use Rattle.az_base.specs.Ids.{id_cmp, same_id, ids_total, exact_ids}
+use Rattle.az_base.specs.WithValue.{with_value}
+use Rattle.az_base.specs.Ids.{id_cmp, same_id, id_eq, ids_total, exact_ids}
+use Rattle.az_base.proofs.Tables.{get-with_value, none_alike}
+use Rattle.az_base.proofs.Ids.{equal, eq_ids, eq_is, same_turned}
 use Rattle.az_base.specs.Places.{pair_cmp, pairs_total, exact_pair}
 use Rattle.assoc_refs.specs.Values.{Values, shown_pair}
-use Rattle.assoc_refs.specs.Table.{with_value, without_object, pairs_of, lifted, all_pairs, shown_pairs, id_eq}
-
-then_eq : (r o : Ordering) → is_eq (ordering_then r o) ≡ (is_eq r && is_eq o)
-then_eq Less o = refl
-then_eq Equal o = refl
-then_eq Greater o = refl
-
-nat_eq_cmp : (x y : ℕ) → (x == y) ≡ is_eq (nat_cmp x y)
-nat_eq_cmp x y = grind (arith, nat_tests, common_steps)
-
-pub eq_ids : (a b : BlockId) → id_eq a b ≡ same_id a b
-eq_ids a b =
-    ap (λ t. t && (a.serial == b.serial)) (nat_eq_cmp a.thread b.thread) ∙ ap (λ t. is_eq (nat_cmp a.thread b.thread) && t) (nat_eq_cmp a.serial b.serial)
-    ∙ sym (then_eq (nat_cmp a.thread b.thread) (nat_cmp a.serial b.serial))
-
-turn : (a b : BlockId) → same_id a b ≡ same_id b a
-turn a b = (eq_by_cmp_equiv ids_total).symm a b
-
-pub equal : (r : Ordering) → is_eq r ≡ true → r ≡ Equal
-equal Less e = cc
-equal Equal e = refl
-equal Greater e = cc
-
-pub one_id : (a b : BlockId) → id_eq a b ≡ true → a ≡ b
-one_id a b e = exact_ids a b (equal _ (sym (eq_ids a b) ∙ e))
+use Rattle.assoc_refs.specs.Table.{without_object, pairs_of, lifted, all_pairs, shown_pairs}
 
 -- the values of an object, in its list
 abbrev pub values_in : Option Values → FinMap nat_cmp BlockId
@@ -50,15 +27,6 @@ values_in (Some v) = v.values
 
 abbrev pub values_at : List (BlockId × Values) → BlockId → FinMap nat_cmp BlockId
 values_at es object = values_in (lookup (id_eq object) es)
-
-none_alike : (k : BlockId) (ks : List BlockId) → IsDistinct id_eq (k ∷ ks) → list_any (id_eq k) ks ≡ false
-unfolding IsDistinct
-none_alike k [] h = refl
-none_alike k (x ∷ ks) h = ap (λ t. t || list_any (id_eq k) ks) h.0.0 ∙ none_alike k ks (h.0.1, h.1.1)
-
-rest_distinct : (k : BlockId) (ks : List BlockId) → IsDistinct id_eq (k ∷ ks) → IsDistinct id_eq ks
-unfolding IsDistinct
-rest_distinct k ks h = h.1
 
 missing : {X : Type 0} (test : BlockId → Bool) (es : List (BlockId × X)) → list_any test (keys_of es) ≡ false → lookup test es ≡ None
 missing test [] h = refl
@@ -89,7 +57,7 @@ find-lifted q object k [] = by (same_id q object)
     by true = refl
     by false = refl
 find-lifted q object k (p ∷ ps) =
-    ap (λ t. cond t (Some p.1) (find pair_cmp (q, k) (lifted object ps))) (then_eq (id_cmp q object) (nat_cmp k p.0))
+    ap (λ t. cond t (Some p.1) (find pair_cmp (q, k) (lifted object ps))) (sym (tied_then (id_cmp q object) (nat_cmp k p.0)))
     ∙ ap (cond (same_id q object && is_eq (nat_cmp k p.0)) (Some p.1)) (find-lifted q object k ps)
     ∙ by (same_id q object) (is_eq (nat_cmp k p.0))
   where
@@ -113,22 +81,17 @@ shown-at es once object k = get-from_entries pairs_total (all_pairs es) (object,
     found : (es : List (BlockId × Values)) → IsDistinct id_eq (keys_of es) → find pair_cmp (object, k) (all_pairs es) ≡ get (values_at es object) k
     found [] once = sym (get-empty nat_cmp k)
     found (e ∷ es) once =
-        let rest : find pair_cmp (object, k) (all_pairs es) ≡ get (values_at es object) k = found es (rest_distinct e.0 (keys_of es) once) in
+        let rest : find pair_cmp (object, k) (all_pairs es) ≡ get (values_at es object) k = found es (IsDistinct-tail id_eq e.0 (keys_of es) once) in
         find-append (object, k) (lifted e.0 (entries e.1.values)) (all_pairs es)
         ∙ ap (λ o. or_else o (find pair_cmp (object, k) (all_pairs es))) (find-lifted object e.0 k (entries e.1.values))
         ∙ here k (find nat_cmp k (entries e.1.values)) e.1 (same_id object e.0) (id_eq object e.0) (find pair_cmp (object, k) (all_pairs es)) (lookup (id_eq object) es)
         (eq_ids object e.0) (sym (get-entries e.1.values k))
-        (λ s. rest ∙ ap (λ l. get (values_in l) k) (missing (id_eq object) es (subst (λ x. list_any (id_eq x) (keys_of es) ≡ false) (sym (one_id object e.0 (eq_ids object e.0 ∙ s))) (none_alike e.0 (keys_of es) once))) ∙ get-empty nat_cmp k)
+        (λ s. rest ∙ ap (λ l. get (values_in l) k) (missing (id_eq object) es (subst (λ x. list_any (id_eq x) (keys_of es) ≡ false) (sym (eq_is object e.0 (eq_ids object e.0 ∙ s))) (none_alike id_eq e.0 (keys_of es) once))) ∙ get-empty nat_cmp k)
         rest
 
 -- lists in which each object has the same values are one map
 pub same_shown : (es fs : List (BlockId × Values)) → IsDistinct id_eq (keys_of es) → IsDistinct id_eq (keys_of fs) → ((q : BlockId) → values_at fs q ≡ values_at es q) → shown_pairs fs ≡ shown_pairs es
 same_shown es fs d e same = same_map pairs_total exact_pair _ _ (λ q. shown-at fs e q.0 q.1 ∙ ap (λ m. get m q.1) (same q.0) ∙ sym (shown-at es d q.0 q.1))
-
-module _ {K X : Type 0} {R : K → K → Ordering} (o : IsTotalOrder R) where
-  get-with_value : (m : FinMap R X) (k : K) (w : Option X) (q : K) → get (with_value m k w) q ≡ cond (eq_by_cmp R q k) w (get m q)
-  get-with_value m k None q = get-remove o m k q
-  get-with_value m k (Some x) q = get-insert o m k x q
 
 -- one value of one object has changed
 pub shown-changed : (es fs : List (BlockId × Values)) → IsDistinct id_eq (keys_of es) → IsDistinct id_eq (keys_of fs) → (object : BlockId) (k : ℕ) (w : Option BlockId) (v : Values)
@@ -136,15 +99,15 @@ pub shown-changed : (es fs : List (BlockId × Values)) → IsDistinct id_eq (key
     → shown_pairs fs ≡ with_value (shown_pairs es) (object, k) w
 shown-changed es fs d e object k w v is values = same_map pairs_total exact_pair _ _ (λ q.
     shown-at fs e q.0 q.1 ∙ ap (λ l. get (values_in l) q.1) (is q.0) ∙ by q.0 q.1 (id_eq object q.0) refl
-    ∙ ap (λ t. cond t w (get (values_at es q.0) q.1)) (sym (then_eq (id_cmp q.0 object) (nat_cmp q.1 k)))
+    ∙ ap (λ t. cond t w (get (values_at es q.0) q.1)) (tied_then (id_cmp q.0 object) (nat_cmp q.1 k))
     ∙ sym (get-with_value pairs_total (shown_pairs es) (object, k) w q ∙ ap (cond (eq_by_cmp pair_cmp q (object, k)) w) (shown-at es d q.0 q.1)))
   where
     by : (q : BlockId) (j : ℕ) (t : Bool) → id_eq object q ≡ t → get (values_in (cond t (Some v) (lookup (id_eq q) es))) j ≡ cond (same_id q object && is_eq (nat_cmp j k)) w (get (values_at es q) j)
     by q j true h =
         ap (λ m. get m j) values ∙ get-with_value nat_cmp_total (values_at es object) k w j
-        ∙ ap (λ x. cond (is_eq (nat_cmp j k)) w (get (values_at es x) j)) (one_id object q h)
-        ∙ ap (λ s. cond (s && is_eq (nat_cmp j k)) w (get (values_at es q) j)) (sym (turn q object ∙ sym (eq_ids object q) ∙ h))
-    by q j false h = ap (λ s. cond (s && is_eq (nat_cmp j k)) w (get (values_at es q) j)) (sym (turn q object ∙ sym (eq_ids object q) ∙ h))
+        ∙ ap (λ x. cond (is_eq (nat_cmp j k)) w (get (values_at es x) j)) (eq_is object q h)
+        ∙ ap (λ s. cond (s && is_eq (nat_cmp j k)) w (get (values_at es q) j)) (sym (same_turned q object ∙ sym (eq_ids object q) ∙ h))
+    by q j false h = ap (λ s. cond (s && is_eq (nat_cmp j k)) w (get (values_at es q) j)) (sym (same_turned q object ∙ sym (eq_ids object q) ∙ h))
 
 -- a list without values makes no difference
 pub shown-emptied : (es fs : List (BlockId × Values)) → IsDistinct id_eq (keys_of es) → IsDistinct id_eq (keys_of fs) → (object : BlockId)
@@ -152,7 +115,7 @@ pub shown-emptied : (es fs : List (BlockId × Values)) → IsDistinct id_eq (key
 shown-emptied es fs d e object is none = same_shown es fs d e (λ q. ap values_in (is q) ∙ by q (id_eq object q) refl)
   where
     by : (q : BlockId) (t : Bool) → id_eq object q ≡ t → values_in (cond t None (lookup (id_eq q) es)) ≡ values_at es q
-    by q true h = sym none ∙ ap (values_at es) (one_id object q h)
+    by q true h = sym none ∙ ap (values_at es) (eq_is object q h)
     by q false h = refl
 
 -- an object's list is gone
@@ -213,8 +176,8 @@ object-entries es d object =
     by : (q : BlockId) (j : ℕ) (t : Bool) → same_id object q ≡ t → cond t (get (values_at es q) j) None ≡ cond (same_id q object) (find nat_cmp j (entries (values_at es object))) None
     by q j true h =
         ap (λ x. get (values_at es x) j) (sym (exact_ids object q (equal _ h))) ∙ get-entries (values_at es object) j
-        ∙ ap (λ s. cond s (find nat_cmp j (entries (values_at es object))) None) (sym (turn q object ∙ h))
-    by q j false h = ap (λ s. cond s (find nat_cmp j (entries (values_at es object))) None) (sym (turn q object ∙ h))
+        ∙ ap (λ s. cond s (find nat_cmp j (entries (values_at es object))) None) (sym (same_turned q object ∙ h))
+    by q j false h = ap (λ s. cond s (find nat_cmp j (entries (values_at es object))) None) (sym (same_turned q object ∙ h))
 
 keys-again : (object : BlockId) (ps : List (ℕ × BlockId)) → map (λ (e : (BlockId × ℕ) × BlockId). let key : Key = record { 0 = e.0.1 } in (key, e.1)) (lifted object ps) ≡ map shown_pair ps
 keys-again object [] = refl

@@ -7,10 +7,13 @@ use Rattle.std.specs.Option.{MatchOption}
 use Rattle.std.specs.Ordering.{nat_cmp, eq_by_cmp}
 use Rattle.std.specs.FinMap.{FinMap, get, insert, remove, empty, len, get-empty, len-insert, len-remove, empty_of_len, same_map, get-remove}
 use Rattle.az_base.specs.declared.block_id.BlockId.{BlockId}
+use Rattle.az_base.specs.WithValue.{with_value}
+use Rattle.az_base.specs.Ids.{id_eq}
+use Rattle.az_base.proofs.Ids.{equal, eq_is}
 use Rattle.az_base.specs.Places.{pair_cmp, pairs_total, exact_pair}
 use Rattle.assoc_refs.specs.Values.{Values}
-use Rattle.assoc_refs.specs.Table.{with_value, without_object, shown_pairs, id_eq, HasRoom, IsTable}
-use Rattle.assoc_refs.proofs.Flat.{values_in, values_at, shown-at, same_shown, shown-changed, shown-emptied, shown-without, len-without, one_id, equal}
+use Rattle.assoc_refs.specs.Table.{without_object, shown_pairs, HasRoom, IsTable}
+use Rattle.assoc_refs.proofs.Flat.{values_in, values_at, shown-at, same_shown, shown-changed, shown-emptied, shown-without, len-without}
 
 -- the object's list is this one now, and the others stay
 abbrev pub Relists : BlockId → Option Values → List (BlockId × Values) → List (BlockId × Values) → Type 0
@@ -58,7 +61,7 @@ module _ {S : Type 0} (lists : HashMap BlockId Values S) (blank : Values) (n : �
       same_at q = ap values_in (is q) ∙ by (id_eq object q) refl
         where
           by : (b : Bool) → id_eq object q ≡ b → values_in (cond b (Some w) (lookup (id_eq q) lists.entries)) ≡ values_at lists.entries q
-          by true e = same ∙ sym (ap values_in there) ∙ ap (values_at lists.entries) (one_id object q e)
+          by true e = same ∙ sym (ap values_in there) ∙ ap (values_at lists.entries) (eq_is object q e)
           by false e = refl
 
       pub wider-shown : shown_pairs later.entries ≡ shown_pairs lists.entries
@@ -74,7 +77,7 @@ module _ {S : Type 0} (lists : HashMap BlockId Values S) (blank : Values) (n : �
         where
           by : (q : BlockId) (b : Bool) → id_eq object q ≡ b → HasRoom lists blank q → MatchOption (cond b (Some w) (lookup (id_eq q) lists.entries)) ((0 < spare later) × (0 < blank.spare)) (λ v. 0 < v.spare)
           by q true e h =
-              let has : 0 < v.spare = subst (λ o. MatchOption o ((0 < spare lists) × (0 < blank.spare)) (λ v. 0 < v.spare)) (ap (λ x. lookup (id_eq x) lists.entries) (sym (one_id object q e)) ∙ there) h in
+              let has : 0 < v.spare = subst (λ o. MatchOption o ((0 < spare lists) × (0 < blank.spare)) (λ v. 0 < v.spare)) (ap (λ x. lookup (id_eq x) lists.entries) (sym (eq_is object q e)) ∙ there) h in
               omega (arith, has, grows)
           by q false e h = subst (λ s. MatchOption (lookup (id_eq q) lists.entries) ((0 < s) × (0 < blank.spare)) (λ v. 0 < v.spare)) (sym room) h
 

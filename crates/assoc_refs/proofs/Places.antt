@@ -11,15 +11,8 @@ use Rattle.std.specs.FinMap.{nat_cmp-IsAntisymmetric, is_sorted, find, put, from
 use Rattle.std.specs.FinMap.Entries.{below_all, where_key, by_order, is_sorted-put, is_sorted-where_key, find-put, find-where_key}
 use Rattle.az_base.specs.declared.block_id.BlockId.{BlockId}
 use Rattle.az_base.specs.declared.numbers.Key.{Key}
-use Rattle.assoc_refs.specs.Values.{IsPlace, Finds, plain, shown_pair}
-
-first : (a b : Bool) → T (a && b) → T a
-first true b p = tt
-first false b p = p
-
-second : (a b : Bool) → T (a && b) → T b
-second true b p = p
-second false b p = absurd p
+use Rattle.az_base.proofs.Sorted.{first, second, find_below}
+use Rattle.assoc_refs.specs.Values.{IsPlace, Finds, numbered, shown_pair}
 
 below : (a b : ℕ) → T (is_lt (nat_cmp a b)) → a < b
 below a b h = grind (arith, common_steps)
@@ -91,10 +84,6 @@ find-at k w (e ∷ es) zero p at = ap (λ r. cond (is_eq r) (Some e.1) (find nat
     the_value h = cc
 find-at k w (e ∷ es) (suc i) p at = ap (λ r. cond (is_eq r) (Some e.1) (find nat_cmp k es)) (is_greater k e.0 (before e k es i p)) ∙ find-at k w es i (moved e k es i p) at
 
-find-below : (k : ℕ) (es : List (ℕ × BlockId)) → T (below_all nat_cmp k es) → find nat_cmp k es ≡ None
-find-below k [] h = refl
-find-below k (e ∷ es) h = ap (λ r. cond (is_eq r) (Some e.1) (find nat_cmp k es)) (is_less k e.0 (below k e.0 (first _ _ h))) ∙ find-below k es (second _ _ h)
-
 lower : (k : ℕ) (e : ℕ) (es : List (ℕ × BlockId)) → k < e → T (below_all nat_cmp e es) → T (below_all nat_cmp k es)
 lower k e [] l h = tt
 lower k e (f ∷ es) l h =
@@ -107,7 +96,7 @@ pub find-none : (k : ℕ) (es : List (ℕ × BlockId)) (i : ℕ) → T (is_sorte
 find-none k [] i s p n = refl
 find-none k (e ∷ es) zero s p n =
     let l : k < e.0 = apart ((p 0 e refl).1 (omega arith)) (λ q. n e.1 (ap (λ x. Some (x, e.1)) (sym q))) in
-    ap (λ r. cond (is_eq r) (Some e.1) (find nat_cmp k es)) (is_less k e.0 l) ∙ find-below k es (lower k e.0 es l (first _ _ s))
+    ap (λ r. cond (is_eq r) (Some e.1) (find nat_cmp k es)) (is_less k e.0 l) ∙ find_below nat_cmp k es (lower k e.0 es l (first _ _ s))
   where
     apart : k ≤ e.0 → (k ≡ e.0 → ⊥) → k < e.0
     apart h f = omega (arith, h, f)
@@ -132,31 +121,31 @@ where-removed k w (e ∷ es) (suc i) s p at =
 abbrev plain_pair : Key × BlockId → ℕ × BlockId
 plain_pair e = (e.0.0, e.1)
 
-pub plain-length : (es : List (Key × BlockId)) → length (plain es) ≡ length es
-plain-length [] = refl
-plain-length (e ∷ es) = ap suc (plain-length es)
+pub numbered-length : (es : List (Key × BlockId)) → length (numbered es) ≡ length es
+numbered-length [] = refl
+numbered-length (e ∷ es) = ap suc (numbered-length es)
 
-pub plain-get : (es : List (Key × BlockId)) (i : ℕ) → slice_get (plain es) i ≡ option_map plain_pair (slice_get es i)
-plain-get [] i = refl
-plain-get (e ∷ es) zero = refl
-plain-get (e ∷ es) (suc i) = plain-get es i
+pub numbered-get : (es : List (Key × BlockId)) (i : ℕ) → slice_get (numbered es) i ≡ option_map plain_pair (slice_get es i)
+numbered-get [] i = refl
+numbered-get (e ∷ es) zero = refl
+numbered-get (e ∷ es) (suc i) = numbered-get es i
 
-pub plain-insert : (es : List (Key × BlockId)) (i : ℕ) (x : Key × BlockId) → plain (list_insert es i x) ≡ list_insert (plain es) i (x.0.0, x.1)
-plain-insert [] zero x = refl
-plain-insert [] (suc i) x = refl
-plain-insert (e ∷ es) zero x = refl
-plain-insert (e ∷ es) (suc i) x = ap (λ xs. (e.0.0, e.1) ∷ xs) (plain-insert es i x)
+pub numbered-insert : (es : List (Key × BlockId)) (i : ℕ) (x : Key × BlockId) → numbered (list_insert es i x) ≡ list_insert (numbered es) i (x.0.0, x.1)
+numbered-insert [] zero x = refl
+numbered-insert [] (suc i) x = refl
+numbered-insert (e ∷ es) zero x = refl
+numbered-insert (e ∷ es) (suc i) x = ap (λ xs. (e.0.0, e.1) ∷ xs) (numbered-insert es i x)
 
-pub plain-remove : (es : List (Key × BlockId)) (i : ℕ) → plain (list_remove es i) ≡ list_remove (plain es) i
-plain-remove [] zero = refl
-plain-remove [] (suc i) = refl
-plain-remove (e ∷ es) zero = refl
-plain-remove (e ∷ es) (suc i) = ap (λ xs. (e.0.0, e.1) ∷ xs) (plain-remove es i)
+pub numbered-remove : (es : List (Key × BlockId)) (i : ℕ) → numbered (list_remove es i) ≡ list_remove (numbered es) i
+numbered-remove [] zero = refl
+numbered-remove [] (suc i) = refl
+numbered-remove (e ∷ es) zero = refl
+numbered-remove (e ∷ es) (suc i) = ap (λ xs. (e.0.0, e.1) ∷ xs) (numbered-remove es i)
 
-pub plain-set : (es : List (Key × BlockId)) (i : ℕ) (x : Key × BlockId) → plain (slice_set es i x) ≡ slice_set (plain es) i (x.0.0, x.1)
-plain-set [] i x = refl
-plain-set (e ∷ es) zero x = refl
-plain-set (e ∷ es) (suc i) x = ap (λ xs. (e.0.0, e.1) ∷ xs) (plain-set es i x)
+pub numbered-set : (es : List (Key × BlockId)) (i : ℕ) (x : Key × BlockId) → numbered (slice_set es i x) ≡ slice_set (numbered es) i (x.0.0, x.1)
+numbered-set [] i x = refl
+numbered-set (e ∷ es) zero x = refl
+numbered-set (e ∷ es) (suc i) x = ap (λ xs. (e.0.0, e.1) ∷ xs) (numbered-set es i x)
 
 -- lists that rise, as maps
 pub sorted-put : (k : ℕ) (v : BlockId) (es : List (ℕ × BlockId)) → T (is_sorted nat_cmp es) → T (is_sorted nat_cmp (put nat_cmp k v es))
@@ -185,11 +174,11 @@ map-where k es s = same_map nat_cmp_total nat_cmp-IsAntisymmetric _ _ (λ q.
 pub map-empty : from_sorted {X = BlockId} {R = nat_cmp} [] ≡ empty
 map-empty = same_map nat_cmp_total nat_cmp-IsAntisymmetric _ _ (λ q. get-from_sorted nat_cmp [] q tt ∙ sym (get-empty nat_cmp q))
 
-pub map-none : (es : List (Key × BlockId)) → es ≡ [] → from_sorted {R = nat_cmp} (plain es) ≡ empty
-map-none es e = ap (λ xs. from_sorted {R = nat_cmp} (plain xs)) e ∙ map-empty
+pub map-none : (es : List (Key × BlockId)) → es ≡ [] → from_sorted {R = nat_cmp} (numbered es) ≡ empty
+map-none es e = ap (λ xs. from_sorted {R = nat_cmp} (numbered xs)) e ∙ map-empty
 
-pub map-length : (es : List (Key × BlockId)) → T (is_sorted nat_cmp (plain es)) → length es ≡ len (from_sorted {R = nat_cmp} (plain es))
-map-length es s = sym (len-entries (from_sorted (plain es)) ∙ ap length (entries-from_sorted nat_cmp (plain es) s) ∙ plain-length es)
+pub map-length : (es : List (Key × BlockId)) → T (is_sorted nat_cmp (numbered es)) → length es ≡ len (from_sorted {R = nat_cmp} (numbered es))
+map-length es s = sym (len-entries (from_sorted (numbered es)) ∙ ap length (entries-from_sorted nat_cmp (numbered es) s) ∙ numbered-length es)
 
 shown_again : (e : Key × BlockId) → shown_pair (plain_pair e) ≡ e
 shown_again e = refl
@@ -198,12 +187,12 @@ again : (o : Option (Key × BlockId)) → option_map shown_pair (option_map plai
 again None = refl
 again (Some e) = refl
 
-pub map-nth : (es : List (Key × BlockId)) (n : ℕ) → T (is_sorted nat_cmp (plain es)) → slice_get es n ≡ option_map shown_pair (slice_get (entries (from_sorted {R = nat_cmp} (plain es))) n)
-map-nth es n s = sym (ap (λ xs. option_map shown_pair (slice_get xs n)) (entries-from_sorted nat_cmp (plain es) s) ∙ ap (option_map shown_pair) (plain-get es n) ∙ again (slice_get es n))
+pub map-nth : (es : List (Key × BlockId)) (n : ℕ) → T (is_sorted nat_cmp (numbered es)) → slice_get es n ≡ option_map shown_pair (slice_get (entries (from_sorted {R = nat_cmp} (numbered es))) n)
+map-nth es n s = sym (ap (λ xs. option_map shown_pair (slice_get xs n)) (entries-from_sorted nat_cmp (numbered es) s) ∙ ap (option_map shown_pair) (numbered-get es n) ∙ again (slice_get es n))
 
 -- an item of the list, as the code reads it
-pub plain-item : (es : List (Key × BlockId)) (i : ℕ) (x : Key × BlockId) → i < length es → x ≡ get_or es i x → slice_get (plain es) i ≡ Some (x.0.0, x.1)
-plain-item es i x l e = plain-get es i ∙ ap (option_map plain_pair) (slice_get-get_or es i x l ∙ ap Some (sym e))
+pub numbered-item : (es : List (Key × BlockId)) (i : ℕ) (x : Key × BlockId) → i < length es → x ≡ get_or es i x → slice_get (numbered es) i ≡ Some (x.0.0, x.1)
+numbered-item es i x l e = numbered-get es i ∙ ap (option_map plain_pair) (slice_get-get_or es i x l ∙ ap Some (sym e))
 
 earlier_or_same : (j m : ℕ) → j < m + 1 → (j < m) ⊎ (j ≡ m)
 earlier_or_same zero zero l = inr refl
@@ -239,59 +228,59 @@ value_of : (a b : ℕ × BlockId) → Some a ≡ Some b → Some a.1 ≡ Some b.
 value_of a b h = cc
 
 -- what a search says of the map
-pub get-found : (es : List (Key × BlockId)) (k i : ℕ) (x : Key × BlockId) → T (is_sorted nat_cmp (plain es)) → Finds k (plain es) (Ok i) → x ≡ get_or es i x → get (from_sorted {R = nat_cmp} (plain es)) k ≡ Some x.1
+pub get-found : (es : List (Key × BlockId)) (k i : ℕ) (x : Key × BlockId) → T (is_sorted nat_cmp (numbered es)) → Finds k (numbered es) (Ok i) → x ≡ get_or es i x → get (from_sorted {R = nat_cmp} (numbered es)) k ≡ Some x.1
 get-found es k i x s f e =
-    get-from_sorted nat_cmp (plain es) k s ∙ find-at k f.1 (plain es) i f.0 f.2
-    ∙ value_of (k, f.1) (x.0.0, x.1) (sym f.2 ∙ plain-item es i x (subst (λ n. i < n) (plain-length es) (slice_get_within (plain es) i _ f.2)) e)
+    get-from_sorted nat_cmp (numbered es) k s ∙ find-at k f.1 (numbered es) i f.0 f.2
+    ∙ value_of (k, f.1) (x.0.0, x.1) (sym f.2 ∙ numbered-item es i x (subst (λ n. i < n) (numbered-length es) (slice_get_within (numbered es) i _ f.2)) e)
 
-pub get-absent : (es : List (Key × BlockId)) (k i : ℕ) → T (is_sorted nat_cmp (plain es)) → Finds k (plain es) (Err i) → get (from_sorted {R = nat_cmp} (plain es)) k ≡ None
-get-absent es k i s f = get-from_sorted nat_cmp (plain es) k s ∙ find-none k (plain es) i s f.0 f.2
+pub get-absent : (es : List (Key × BlockId)) (k i : ℕ) → T (is_sorted nat_cmp (numbered es)) → Finds k (numbered es) (Err i) → get (from_sorted {R = nat_cmp} (numbered es)) k ≡ None
+get-absent es k i s f = get-from_sorted nat_cmp (numbered es) k s ∙ find-none k (numbered es) i s f.0 f.2
 
 -- the list after a write, an insertion, a removal
-pub list-written : (es : List (Key × BlockId)) (k : Key) (v : BlockId) (i : ℕ) → Finds k.0 (plain es) (Ok i) → plain (slice_set es i (k, v)) ≡ put nat_cmp k.0 v (plain es)
-list-written es k v i f = plain-set es i (k, v) ∙ put-written k.0 v f.1 (plain es) i f.0 f.2
+pub list-written : (es : List (Key × BlockId)) (k : Key) (v : BlockId) (i : ℕ) → Finds k.0 (numbered es) (Ok i) → numbered (slice_set es i (k, v)) ≡ put nat_cmp k.0 v (numbered es)
+list-written es k v i f = numbered-set es i (k, v) ∙ put-written k.0 v f.1 (numbered es) i f.0 f.2
 
-pub list-inserted : (es : List (Key × BlockId)) (k : Key) (v : BlockId) (i : ℕ) → Finds k.0 (plain es) (Err i) → plain (list_insert es i (k, v)) ≡ put nat_cmp k.0 v (plain es)
-list-inserted es k v i f = plain-insert es i (k, v) ∙ put-inserted k.0 v (plain es) i f.0 f.1 f.2
+pub list-inserted : (es : List (Key × BlockId)) (k : Key) (v : BlockId) (i : ℕ) → Finds k.0 (numbered es) (Err i) → numbered (list_insert es i (k, v)) ≡ put nat_cmp k.0 v (numbered es)
+list-inserted es k v i f = numbered-insert es i (k, v) ∙ put-inserted k.0 v (numbered es) i f.0 f.1 f.2
 
-pub list-removed : (es : List (Key × BlockId)) (k i : ℕ) → T (is_sorted nat_cmp (plain es)) → Finds k (plain es) (Ok i) → plain (list_remove es i) ≡ where_key nat_cmp (λ x. not (eq_by_cmp nat_cmp k x)) (plain es)
-list-removed es k i s f = plain-remove es i ∙ where-removed k f.1 (plain es) i s f.0 f.2
+pub list-removed : (es : List (Key × BlockId)) (k i : ℕ) → T (is_sorted nat_cmp (numbered es)) → Finds k (numbered es) (Ok i) → numbered (list_remove es i) ≡ where_key nat_cmp (λ x. not (eq_by_cmp nat_cmp k x)) (numbered es)
+list-removed es k i s f = numbered-remove es i ∙ where-removed k f.1 (numbered es) i s f.0 f.2
 
 -- and as maps
-pub map-changed : (es fs : List (Key × BlockId)) (k : ℕ) (v : BlockId) → T (is_sorted nat_cmp (plain es)) → plain fs ≡ put nat_cmp k v (plain es) → from_sorted {R = nat_cmp} (plain fs) ≡ insert (from_sorted (plain es)) k v
-map-changed es fs k v s e = ap from_sorted e ∙ map-put k v (plain es) s
+pub map-changed : (es fs : List (Key × BlockId)) (k : ℕ) (v : BlockId) → T (is_sorted nat_cmp (numbered es)) → numbered fs ≡ put nat_cmp k v (numbered es) → from_sorted {R = nat_cmp} (numbered fs) ≡ insert (from_sorted (numbered es)) k v
+map-changed es fs k v s e = ap from_sorted e ∙ map-put k v (numbered es) s
 
-pub sorted-changed : (es fs : List (Key × BlockId)) (k : ℕ) (v : BlockId) → T (is_sorted nat_cmp (plain es)) → plain fs ≡ put nat_cmp k v (plain es) → T (is_sorted nat_cmp (plain fs))
-sorted-changed es fs k v s e = subst (λ xs. T (is_sorted nat_cmp xs)) (sym e) (sorted-put k v (plain es) s)
+pub sorted-changed : (es fs : List (Key × BlockId)) (k : ℕ) (v : BlockId) → T (is_sorted nat_cmp (numbered es)) → numbered fs ≡ put nat_cmp k v (numbered es) → T (is_sorted nat_cmp (numbered fs))
+sorted-changed es fs k v s e = subst (λ xs. T (is_sorted nat_cmp xs)) (sym e) (sorted-put k v (numbered es) s)
 
-pub map-left : (es fs : List (Key × BlockId)) (k : ℕ) → T (is_sorted nat_cmp (plain es)) → plain fs ≡ where_key nat_cmp (λ x. not (eq_by_cmp nat_cmp k x)) (plain es) → from_sorted {R = nat_cmp} (plain fs) ≡ remove (from_sorted (plain es)) k
-map-left es fs k s e = ap from_sorted e ∙ map-where k (plain es) s
+pub map-left : (es fs : List (Key × BlockId)) (k : ℕ) → T (is_sorted nat_cmp (numbered es)) → numbered fs ≡ where_key nat_cmp (λ x. not (eq_by_cmp nat_cmp k x)) (numbered es) → from_sorted {R = nat_cmp} (numbered fs) ≡ remove (from_sorted (numbered es)) k
+map-left es fs k s e = ap from_sorted e ∙ map-where k (numbered es) s
 
-pub sorted-left : (es fs : List (Key × BlockId)) (k : ℕ) → T (is_sorted nat_cmp (plain es)) → plain fs ≡ where_key nat_cmp (λ x. not (eq_by_cmp nat_cmp k x)) (plain es) → T (is_sorted nat_cmp (plain fs))
-sorted-left es fs k s e = subst (λ xs. T (is_sorted nat_cmp xs)) (sym e) (sorted-where k (plain es) s)
+pub sorted-left : (es fs : List (Key × BlockId)) (k : ℕ) → T (is_sorted nat_cmp (numbered es)) → numbered fs ≡ where_key nat_cmp (λ x. not (eq_by_cmp nat_cmp k x)) (numbered es) → T (is_sorted nat_cmp (numbered fs))
+sorted-left es fs k s e = subst (λ xs. T (is_sorted nat_cmp xs)) (sym e) (sorted-where k (numbered es) s)
 
 same_key : (q k : ℕ) → eq_by_cmp nat_cmp q k ≡ true → q ≡ k
 same_key q k h = grind (arith, common_steps)
 
-unchanged : (es : List (Key × BlockId)) (k i : ℕ) → T (is_sorted nat_cmp (plain es)) → Finds k (plain es) (Err i) → (q : ℕ) (b : Bool) → eq_by_cmp nat_cmp q k ≡ b
-    → get (from_sorted {R = nat_cmp} (plain es)) q ≡ cond (eq_by_cmp nat_cmp q k) None (get (from_sorted {R = nat_cmp} (plain es)) q)
-unchanged es k i s f q true e = ap (get (from_sorted {R = nat_cmp} (plain es))) (same_key q k e) ∙ get-absent es k i s f ∙ ap (λ t. cond t None (get (from_sorted {R = nat_cmp} (plain es)) q)) (sym e)
-unchanged es k i s f q false e = ap (λ t. cond t None (get (from_sorted {R = nat_cmp} (plain es)) q)) (sym e)
+unchanged : (es : List (Key × BlockId)) (k i : ℕ) → T (is_sorted nat_cmp (numbered es)) → Finds k (numbered es) (Err i) → (q : ℕ) (b : Bool) → eq_by_cmp nat_cmp q k ≡ b
+    → get (from_sorted {R = nat_cmp} (numbered es)) q ≡ cond (eq_by_cmp nat_cmp q k) None (get (from_sorted {R = nat_cmp} (numbered es)) q)
+unchanged es k i s f q true e = ap (get (from_sorted {R = nat_cmp} (numbered es))) (same_key q k e) ∙ get-absent es k i s f ∙ ap (λ t. cond t None (get (from_sorted {R = nat_cmp} (numbered es)) q)) (sym e)
+unchanged es k i s f q false e = ap (λ t. cond t None (get (from_sorted {R = nat_cmp} (numbered es)) q)) (sym e)
 
 -- a key that isn't there stays away
-pub map-absent : (es : List (Key × BlockId)) (k i : ℕ) → T (is_sorted nat_cmp (plain es)) → Finds k (plain es) (Err i) → from_sorted {R = nat_cmp} (plain es) ≡ remove (from_sorted (plain es)) k
-map-absent es k i s f = same_map nat_cmp_total nat_cmp-IsAntisymmetric _ _ (λ q. unchanged es k i s f q (eq_by_cmp nat_cmp q k) refl ∙ sym (get-remove nat_cmp_total (from_sorted (plain es)) k q))
+pub map-absent : (es : List (Key × BlockId)) (k i : ℕ) → T (is_sorted nat_cmp (numbered es)) → Finds k (numbered es) (Err i) → from_sorted {R = nat_cmp} (numbered es) ≡ remove (from_sorted (numbered es)) k
+map-absent es k i s f = same_map nat_cmp_total nat_cmp-IsAntisymmetric _ _ (λ q. unchanged es k i s f q (eq_by_cmp nat_cmp q k) refl ∙ sym (get-remove nat_cmp_total (from_sorted (numbered es)) k q))
 
 pub half_within : (low high : ℕ) → low < high → (low ≤ low + (high - low) / 2) × (low + (high - low) / 2 < high)
 half_within low high l = (omega arith, omega arith)
 
 -- the n-th pair, as the code reads it
-pub nth-there : (es : List (Key × BlockId)) (n : ℕ) (x : Key × BlockId) → T (is_sorted nat_cmp (plain es)) → n < length es → x ≡ get_or es n x → Some x ≡ option_map shown_pair (slice_get (entries (from_sorted {R = nat_cmp} (plain es))) n)
+pub nth-there : (es : List (Key × BlockId)) (n : ℕ) (x : Key × BlockId) → T (is_sorted nat_cmp (numbered es)) → n < length es → x ≡ get_or es n x → Some x ≡ option_map shown_pair (slice_get (entries (from_sorted {R = nat_cmp} (numbered es))) n)
 nth-there es n x s l e = ap Some e ∙ sym (slice_get-get_or es n x l) ∙ map-nth es n s
 
-pub nth-past : (es : List (Key × BlockId)) (n : ℕ) → T (is_sorted nat_cmp (plain es)) → length es ≤ n → None ≡ option_map shown_pair (slice_get (entries (from_sorted {R = nat_cmp} (plain es))) n)
+pub nth-past : (es : List (Key × BlockId)) (n : ℕ) → T (is_sorted nat_cmp (numbered es)) → length es ≤ n → None ≡ option_map shown_pair (slice_get (entries (from_sorted {R = nat_cmp} (numbered es))) n)
 nth-past es n s l = sym (slice_get_past es n l) ∙ map-nth es n s
 
-pub sorted-either : (es fs gs : List (Key × BlockId)) (b : Bool) → T (is_sorted nat_cmp (plain es)) → T (is_sorted nat_cmp (plain gs)) → fs ≡ (if b then gs else es) → T (is_sorted nat_cmp (plain fs))
-sorted-either es fs gs true s t e = subst (λ xs. T (is_sorted nat_cmp (plain xs))) (sym e) t
-sorted-either es fs gs false s t e = subst (λ xs. T (is_sorted nat_cmp (plain xs))) (sym e) s
+pub sorted-either : (es fs gs : List (Key × BlockId)) (b : Bool) → T (is_sorted nat_cmp (numbered es)) → T (is_sorted nat_cmp (numbered gs)) → fs ≡ (if b then gs else es) → T (is_sorted nat_cmp (numbered fs))
+sorted-either es fs gs true s t e = subst (λ xs. T (is_sorted nat_cmp (numbered xs))) (sym e) t
+sorted-either es fs gs false s t e = subst (λ xs. T (is_sorted nat_cmp (numbered xs))) (sym e) s

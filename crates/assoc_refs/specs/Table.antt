@@ -1,16 +1,16 @@
 -- Associations by object and key
-use Rattle.std.specs.Prelude.{◌≡◌, ℕ, ◌<◌, ◌+◌, ◌==◌, ◌&&◌, ◌^◌, Bool, not, List, [], ◌∷◌, ◌++◌, Option, None, Some, MatchOption, map, refl}
+use Rattle.std.specs.Prelude.{◌≡◌, ℕ, ◌<◌, ◌+◌, ◌^◌, not, List, [], ◌∷◌, ◌++◌, Option, Some, MatchOption, map, refl}
 use Rattle.std.specs.Coded.{Coded, code_by, coded×, coded_option}
 use Rattle.std.specs.FinMap as finite
-use Rattle.std.specs.FinMap.{FinMap, entries, from_entries, insert, remove, retain_keys, empty, len}
+use Rattle.std.specs.FinMap.{FinMap, entries, from_entries, retain_keys, empty, len}
 use Rattle.std.specs.HashMap.{HashMap, spare}
 use Rattle.std.specs.List.{IsDistinct}
 use Rattle.std.specs.Map.{lookup, keys_of}
-use Rattle.std.specs.declared.cmp.Ordering.{Ordering}
 use Rattle.az_base.specs.declared.block_id.BlockId.{BlockId}
 use Rattle.az_base.specs.declared.numbers.Key.{Key}
 use Rattle.az_base.specs.Id.{coded_id}
-use Rattle.az_base.specs.Ids.{same_id}
+pub use Rattle.az_base.specs.WithValue.{with_value}
+use Rattle.az_base.specs.Ids.{id_eq, same_id}
 use Rattle.az_base.specs.Places.{pair_cmp}
 use Rattle.assoc_refs.specs.Values.{Values}
 use Rattle.std.specs.Coded.{coded_ℕ}
@@ -25,12 +25,6 @@ abbrev pub coded_associated : Coded Associated
 coded_associated =
     code_by (FinMap pair_cmp BlockId × Option BlockId) (coded× (finite.code (coded× coded_id coded_ℕ) coded_id) (coded_option coded_id))
     (λ a. (a.pairs, a.ready)) (λ p. record { pairs = p.0; ready = p.1 }) (λ _. refl)
-
-module _ {K X : Type 0} {R : K → K → Ordering} where
-  -- the map with this value at the key, or with none there
-  abbrev pub with_value : FinMap R X → K → Option X → FinMap R X
-  with_value m k None = remove m k
-  with_value m k (Some x) = insert m k x
 
 -- without the pairs of the object
 abbrev pub without_object : FinMap pair_cmp BlockId → BlockId → FinMap pair_cmp BlockId
@@ -52,10 +46,6 @@ all_pairs (e ∷ es) = lifted e.0 (entries e.1.values) ++ all_pairs es
 -- what the lists are together
 abbrev pub shown_pairs : List (BlockId × Values) → FinMap pair_cmp BlockId
 shown_pairs es = from_entries (all_pairs es)
-
--- the test of two ids, as the code makes it
-abbrev pub id_eq : BlockId → BlockId → Bool
-id_eq a b = (a.thread == b.thread) && (a.serial == b.serial)
 
 -- one more pair of the object needs no memory: its list has room, or where it has none, there is room for its list and in the blank one
 abbrev pub HasRoom : {S : Type 0} → HashMap BlockId Values S → Values → BlockId → Type 0

@@ -19,8 +19,8 @@ abbrev pub coded_values : Coded Values
 coded_values = code_by (FinMap nat_cmp BlockId × ℕ) (coded× (finite.code coded_ℕ coded_id) coded_ℕ) (λ v. (v.values, v.spare)) (λ p. record { values = p.0; spare = p.1 }) (λ _. refl)
 
 -- pairs with the numbers of their keys
-abbrev pub plain : List (Key × BlockId) → List (ℕ × BlockId)
-plain es = map (λ (e : Key × BlockId). let r : ℕ × BlockId = (e.0.0, e.1) in r) es
+abbrev pub numbered : List (Key × BlockId) → List (ℕ × BlockId)
+numbered es = map (λ (e : Key × BlockId). let r : ℕ × BlockId = (e.0.0, e.1) in r) es
 
 -- a pair with its key
 abbrev pub shown_pair : ℕ × BlockId → Key × BlockId

@@ -34,7 +34,8 @@ impl Model for Assocs {
 }
 
 impl Assocs {
-    ghost use Rattle.assoc_refs.specs.Table.{with_value, without_object, pairs_of};
+    ghost use Rattle.az_base.specs.WithValue.{with_value};
+    ghost use Rattle.assoc_refs.specs.Table.{without_object, pairs_of};
 
     /// No value.
     pub fn new(alloc: Global) -> Assocs
@@ -85,21 +86,15 @@ impl Assocs {
             return Err(NoMemory);
         }
         if !self.lists.contains_key(&object) {
-            let Ok(()) = self.lists.reserve(1) else {
-                return Err(NoMemory);
-            };
-            let Ok(()) = self.blank.reserve_one() else {
-                return Err(NoMemory);
-            };
+            self.lists.reserve(1)?;
+            self.blank.reserve_one()?;
             self.ready = Some(object);
             return Ok(());
         }
         let Some(list) = self.lists.get_mut(&object) else {
             unreachable!()
         };
-        let Ok(()) = list.reserve_one() else {
-            return Err(NoMemory);
-        };
+        list.reserve_one()?;
         self.ready = Some(object);
         Ok(())
     }
@@ -154,12 +149,8 @@ impl Assocs {
             return Err(NoMemory);
         }
         if !self.lists.contains_key(&object) {
-            let Ok(()) = self.lists.reserve(1) else {
-                return Err(NoMemory);
-            };
-            let Ok(_) = self.blank.set(key, value) else {
-                return Err(NoMemory);
-            };
+            self.lists.reserve(1)?;
+            let _ = self.blank.set(key, value)?;
             let list = mem::replace(&mut self.blank, Pairs::new(*self.lists.allocator()));
             let Ok(_) = self.lists.insert(object, list) else {
                 unreachable!()
@@ -171,9 +162,7 @@ impl Assocs {
         let Some(list) = self.lists.get_mut(&object) else {
             unreachable!()
         };
-        let Ok(before) = list.set(key, value) else {
-            return Err(NoMemory);
-        };
+        let before = list.set(key, value)?;
         self.ready = None;
         if before.is_some() {
             return Ok(before);

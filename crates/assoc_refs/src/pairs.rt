@@ -3,7 +3,7 @@ ghost use Rattle.std.specs.Prelude.{◌≡◌, ◌+◌, ◌-◌, ◌<◌, ◌≤
 ghost use Rattle.std.specs.FinMap as map;
 ghost use Rattle.std.specs.Prelude.{T};
 ghost use Rattle.std.specs.Ordering.{nat_cmp};
-ghost use Rattle.assoc_refs.specs.Values.{IsPlace, Finds, plain};
+ghost use Rattle.assoc_refs.specs.Values.{IsPlace, Finds, numbered};
 
 use az_base::{BlockId, Key, NoMemory};
 use std::alloc::Global;
@@ -20,15 +20,15 @@ impl Model for Pairs {
     ghost use Rattle.std.specs.FinMap.{from_sorted, is_sorted};
     ghost use Rattle.std.specs.Ordering.{nat_cmp};
     ghost use Rattle.std.specs.Vec.{vec_len, vec_capacity};
-    ghost use Rattle.assoc_refs.specs.Values.{Values, coded_values, plain};
+    ghost use Rattle.assoc_refs.specs.Values.{Values, coded_values, numbered};
 
     ghost Value = { Values };
 
     ghost coded = { coded_values };
 
-    ghost view = { λ p. record { values = from_sorted (plain p.list.items); spare = vec_capacity p.list - vec_len p.list } };
+    ghost view = { λ p. record { values = from_sorted (numbered p.list.items); spare = vec_capacity p.list - vec_len p.list } };
 
-    ghost invariant = { λ p. T (is_sorted nat_cmp (plain p.list.items)) };
+    ghost invariant = { λ p. T (is_sorted nat_cmp (numbered p.list.items)) };
 }
 
 impl Pairs {
@@ -76,10 +76,8 @@ impl Pairs {
         ensures ok { OnOk result (0 < self.new.spare) }
         ensures spare { self.old.spare ≤ self.new.spare }
     {
-        match self.list.reserve(1) {
-            Ok(()) => Ok(()),
-            Err(_) => Err(NoMemory),
-        }
+        self.list.reserve(1)?;
+        Ok(())
     }
 
     /// The key gets the value, and the answer is the value before. O(values), since those behind it move.
@@ -97,9 +95,7 @@ impl Pairs {
                 Ok(Some(before))
             }
             Err(place) => {
-                let Ok(()) = self.list.insert(place, (key, value)) else {
-                    return Err(NoMemory);
-                };
+                self.list.insert(place, (key, value))?;
                 Ok(None)
             }
         }
@@ -122,8 +118,8 @@ impl Pairs {
 
 // Where the key stands, or else where it would.
 fn find(list: &[(Key, BlockId)], key: Key) -> Result<usize, usize>
-    requires { T (map.is_sorted nat_cmp (plain list.now)) }
-    ensures { Finds key.0 (plain list.now) result }
+    requires { T (map.is_sorted nat_cmp (numbered list.now)) }
+    ensures { Finds key.0 (numbered list.now) result }
 {
     let place = place_of(list, key);
     if place == list.len() {
@@ -137,8 +133,8 @@ fn find(list: &[(Key, BlockId)], key: Key) -> Result<usize, usize>
 
 // The first place whose key isn't below this one.
 fn place_of(list: &[(Key, BlockId)], key: Key) -> usize
-    requires { T (map.is_sorted nat_cmp (plain list.now)) }
-    ensures place { IsPlace key.0 (plain list.now) result }
+    requires { T (map.is_sorted nat_cmp (numbered list.now)) }
+    ensures place { IsPlace key.0 (numbered list.now) result }
     ensures within { result ≤ length list.now }
 {
     let mut low = 0;

@@ -10,45 +10,63 @@ fn block(serial: u32) -> BlockId {
     BlockId { thread, serial }
 }
 
+fn tells_what_was(assocs: &mut Assocs, object: BlockId) -> bool {
+    assocs.reserve_one(object) == Ok(())
+        && assocs.set(object, Key(2), Some(block(1))) == Ok(None)
+        && assocs.set(object, Key(2), Some(block(2))) == Ok(Some(block(1)))
+        && assocs.get(object, Key(2)) == Some(block(2))
+        && assocs.len() == 1
+        && assocs.set(object, Key(2), None) == Ok(Some(block(2)))
+        && assocs.set(object, Key(2), None) == Ok(None)
+        && assocs.len() == 0
+}
+
 #[test]
 fn answers_the_value_before(rt: HostRuntime) -> Result<(), Fail> {
     let mut assocs = Assocs::new(rt.alloc());
-    let object = block(0);
-    assert_eq!(rt; assocs.reserve_one(object), Ok(()));
-    assert_eq!(rt; assocs.set(object, Key(2), Some(block(1))), Ok(None));
-    assert_eq!(rt;
-        assocs.set(object, Key(2), Some(block(2))),
-        Ok(Some(block(1)))
-    );
-    assert_eq!(rt; assocs.get(object, Key(2)), Some(block(2)));
-    assert_eq!(rt; assocs.len(), 1);
-    assert_eq!(rt; assocs.set(object, Key(2), None), Ok(Some(block(2))));
-    assert_eq!(rt; assocs.set(object, Key(2), None), Ok(None));
-    assert_eq!(rt; assocs.len(), 0);
+    assert!(rt; tells_what_was(&mut assocs, block(0)));
     Ok(())
+}
+
+/// Each key gets a value of its own.
+fn fills(assocs: &mut Assocs, object: BlockId) -> bool {
+    for i in 0..256_u32 {
+        // 89 and 256 have no common factor, so each key comes once.
+        let key = i.wrapping_mul(89) % 256;
+        if assocs.set(object, Key(key as u8), Some(block(key))) != Ok(None) {
+            return false;
+        }
+    }
+    true
+}
+
+fn is_ascending(assocs: &Assocs, object: BlockId) -> bool {
+    for n in 0..256_u32 {
+        if assocs.nth_of(object, n) != Some((Key(n as u8), block(n))) {
+            return false;
+        }
+    }
+    assocs.nth_of(object, 256) == None
+}
+
+fn is_erased(assocs: &mut Assocs, object: BlockId) -> bool {
+    assocs.erase(object);
+    assocs.nth_of(object, 0) == None
+}
+
+fn walks(assocs: &mut Assocs, object: BlockId, other: BlockId) -> bool {
+    assocs.set(other, Key(0), Some(other)) == Ok(None)
+        && fills(assocs, object)
+        && assocs.len() == 257
+        && is_ascending(assocs, object)
+        && is_erased(assocs, object)
+        && assocs.get(other, Key(0)) == Some(other)
+        && assocs.len() == 1
 }
 
 #[test]
 fn walks_in_ascending_keys(rt: HostRuntime) -> Result<(), Fail> {
     let mut assocs = Assocs::new(rt.alloc());
-    let (object, other) = (block(7), block(8));
-    assert_eq!(rt; assocs.set(other, Key(0), Some(other)), Ok(None));
-    for i in 0..256_u32 {
-        // 89 and 256 have no common factor, so each key comes once.
-        let key = i.wrapping_mul(89) % 256;
-        assert_eq!(rt;
-            assocs.set(object, Key(key as u8), Some(block(key))),
-            Ok(None)
-        );
-    }
-    assert_eq!(rt; assocs.len(), 257);
-    for n in 0..256_u32 {
-        assert_eq!(rt; assocs.nth_of(object, n), Some((Key(n as u8), block(n))));
-    }
-    assert_eq!(rt; assocs.nth_of(object, 256), None);
-    assocs.erase(object);
-    assert_eq!(rt; assocs.nth_of(object, 0), None);
-    assert_eq!(rt; assocs.get(other, Key(0)), Some(other));
-    assert_eq!(rt; assocs.len(), 1);
+    assert!(rt; walks(&mut assocs, block(7), block(8)));
     Ok(())
 }

@@ -25,10 +25,8 @@ impl ClassList {
     pub fn from_slice(alloc: Global, classes: &[Class]) -> Result<ClassList, NoMemory>
         ensures { IfOk result (λ list. list ≡ classes.now) }
     {
-        match Vec::from_slice(alloc, classes) {
-            Ok(classes) => Ok(ClassList { classes }),
-            Err(_) => Err(NoMemory),
-        }
+        let classes = Vec::from_slice(alloc, classes)?;
+        Ok(ClassList { classes })
     }
 
     /// The list of these classes. It takes no memory.

@@ -45,22 +45,17 @@ fn first_word(class: Class) -> Word
 pub fn object_words(alloc: Global, classes: &[Class]) -> Result<Vec<Word>, NoMemory>
     ensures { IfOk result (λ words. words.items ≡ map first_word classes.now) }
 {
-    match classes
+    let words = classes
         .iter()
         .map(|class| first_word(*class))
-        .collect(alloc)
-    {
-        Ok(words) => Ok(words),
-        Err(_) => Err(NoMemory),
-    }
+        .collect(alloc)?;
+    Ok(words)
 }
 
 /// So many words that hold the same.
 pub fn words_of(alloc: Global, word: Word, count: u32) -> Result<Vec<Word>, NoMemory>
     ensures { IfOk result (λ words. words.items ≡ replicate count word) }
 {
-    match vec![in alloc; word; count as usize] {
-        Ok(words) => Ok(words),
-        Err(_) => Err(NoMemory),
-    }
+    let words = vec![in alloc; word; count as usize]?;
+    Ok(words)
 }

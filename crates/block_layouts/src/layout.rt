@@ -56,6 +56,17 @@ pub enum LayoutErr {
     NoMemory,
 }
 
+impl From<NoMemory> for LayoutErr {
+    ghost use Rattle.std.specs.Prelude.{◌≡◌};
+    ghost use Rattle.block_layouts.specs.declared.layout.LayoutErr.TheVariants as errors;
+
+    ghost from_gives = { λ _ error. error ≡ errors.NoMemory };
+
+    fn from(_error: NoMemory) -> LayoutErr {
+        LayoutErr::NoMemory
+    }
+}
+
 impl Layout {
     /// Memory that is scanned: so many Strong words.
     pub fn scanned(words: u32) -> Result<Layout, LayoutErr>
@@ -94,12 +105,10 @@ impl Layout {
         if classes.len() > MOST_WORDS as usize {
             return Err(LayoutErr::TooLong);
         }
-        match ClassList::from_slice(alloc, classes) {
-            Ok(classes) => Ok(Layout {
-                shape: Shape::Object(classes),
-            }),
-            Err(_) => Err(LayoutErr::NoMemory),
-        }
+        let classes = ClassList::from_slice(alloc, classes)?;
+        Ok(Layout {
+            shape: Shape::Object(classes),
+        })
     }
 
     /// The object that a text of letters S, W and P says. O(bytes).
@@ -119,12 +128,10 @@ impl Layout {
         if letters.len() > MOST_WORDS as usize {
             return Err(LayoutErr::TooLong);
         }
-        match classes_of(alloc, letters) {
-            Ok(classes) => Ok(Layout {
-                shape: Shape::Object(ClassList::from_vec(classes)),
-            }),
-            Err(_) => Err(LayoutErr::NoMemory),
-        }
+        let classes = classes_of(alloc, letters)?;
+        Ok(Layout {
+            shape: Shape::Object(ClassList::from_vec(classes)),
+        })
     }
 
     /// The shape. O(1).

@@ -31,12 +31,9 @@ pub fn first_other(text: &[u8]) -> Option<usize>
 pub fn classes_of(alloc: Global, text: &[u8]) -> Result<Vec<Class>, NoMemory>
     ensures { IfOk result (λ classes. classes.items ≡ classes_of text.now) }
 {
-    match text
+    let classes = text
         .iter()
         .filter_map(|letter| class_of(*letter))
-        .collect(alloc)
-    {
-        Ok(classes) => Ok(classes),
-        Err(_) => Err(NoMemory),
-    }
+        .collect(alloc)?;
+    Ok(classes)
 }

@@ -1,36 +1,16 @@
 -- A table of counts by block as a finite map
-use Rattle.std.proofs.Common.{◌≡◌, ℕ, ◌<◌, ◌==◌, ◌&&◌, Bool, true, false, cond, List, [], Some, None, IfSome, is_some, slice_get, length, suc, zero, refl, sym, ap, subst, ◌∙◌, arith}
-use Rattle.std.proofs.lemmas.Bool.Decides.{nat_tests}
+use Rattle.std.proofs.Common.{◌≡◌, ℕ, ◌<◌, Bool, true, false, cond, List, [], Some, None, IfSome, is_some, slice_get, length, suc, zero, refl, sym, ap, subst, ◌∙◌, arith}
+use Rattle.std.proofs.lemmas.Map.Made.{is_some-lookup}
 use Rattle.std.proofs.lemmas.Option.{slice_get-map}
-use Rattle.std.proofs.lemmas.Grind.{common_steps}
-use Rattle.std.specs.declared.cmp.Ordering.{Ordering}
-use Rattle.std.specs.declared.cmp.Ordering.TheVariants.{Less, Equal, Greater}
-use Rattle.std.specs.Ordering.{is_eq, nat_cmp, ordering_then}
 use Rattle.std.specs.List.{IsDistinct, list_any}
 use Rattle.std.specs.Map.{lookup, keys_of}
 use Rattle.std.specs.Option.{unwrap_or, option_map}
 use Rattle.std.specs.FinMap.{FinMap, from_entries, get, contains_key, insert, remove, get-insert, get-remove, get-empty, len}
 use Rattle.az_base.specs.declared.block_id.BlockId.{BlockId}
-use Rattle.az_base.specs.Ids.{id_cmp, same_id, ids_total, exact_ids}
+use Rattle.az_base.specs.Ids.{id_cmp, id_eq, same_id, ids_total, exact_ids}
+use Rattle.az_base.proofs.Tables.{shown-get, shown-len, shown-insert, shown-remove}
+use Rattle.az_base.proofs.Ids.{eq_ids}
 use Rattle.retain_table.specs.Counted.{count_of, with_count, IsPositive, IsOrder}
-use Rattle.retain_table.proofs.Shown.{lookup-keys, shown-get, shown-len, shown-insert, shown-remove}
-
-then_eq : (r o : Ordering) → is_eq (ordering_then r o) ≡ (is_eq r && is_eq o)
-then_eq Less o = refl
-then_eq Equal o = refl
-then_eq Greater o = refl
-
-nat_eq_cmp : (x y : ℕ) → (x == y) ≡ is_eq (nat_cmp x y)
-nat_eq_cmp x y = grind (arith, nat_tests, common_steps)
-
--- the derived test of ids
-abbrev pub id_eq : BlockId → BlockId → Bool
-id_eq a b = (a.thread == b.thread) && (a.serial == b.serial)
-
-pub eq_ids : (a b : BlockId) → id_eq a b ≡ same_id a b
-eq_ids a b =
-    ap (λ t. t && (a.serial == b.serial)) (nat_eq_cmp a.thread b.thread) ∙ ap (λ t. is_eq (nat_cmp a.thread b.thread) && t) (nat_eq_cmp a.serial b.serial)
-    ∙ sym (then_eq (nat_cmp a.thread b.thread) (nat_cmp a.serial b.serial))
 
 module _ (es : List (BlockId × ℕ)) where
   pub counted-get : (q : BlockId) → get (from_entries {R = id_cmp} es) q ≡ lookup (id_eq q) es
@@ -39,7 +19,7 @@ module _ (es : List (BlockId × ℕ)) where
   pub counted-order : IsDistinct id_eq (keys_of es) → IsOrder (from_entries es) (keys_of es)
   counted-order once = record {
     once = subst (λ e. IsDistinct e (keys_of es)) (λ i a b. eq_ids a b i) once;
-    counted = λ q. subst (λ t. list_any t (keys_of es) ≡ contains_key (from_entries {R = id_cmp} es) q) (λ i a. eq_ids q a i) (lookup-keys (id_eq q) es ∙ ap is_some (sym (counted-get q)));
+    counted = λ q. subst (λ t. list_any t (keys_of es) ≡ contains_key (from_entries {R = id_cmp} es) q) (λ i a. eq_ids q a i) (sym (is_some-lookup (id_eq q) es) ∙ ap is_some (sym (counted-get q)));
   }
 
 pub counted-len : (es : List (BlockId × ℕ)) → IsDistinct id_eq (keys_of es) → length es ≡ len (from_entries {R = id_cmp} es)

@@ -1,14 +1,15 @@
 -- The least id that isn't below another one
-use Rattle.std.proofs.Common.{◌≡◌, ℕ, ◌+◌, Bool, true, false, not, ◌||◌, List, [], ◌∷◌, ◌++◌, take, slice_get, Option, Some, None, refl, sym, ap, subst, ◌∙◌, true≢false, if◌then◌else◌, arith, suc}
+use Rattle.std.proofs.Common.{◌≡◌, ℕ, ◌+◌, Bool, true, false, not, ◌||◌, List, [], ◌∷◌, ◌++◌, take, slice_get, Option, Some, None, refl, sym, ap, subst, ◌∙◌, true≢false, if◌then◌else◌, arith, suc, inl, inr}
 use Rattle.std.proofs.Math.Seq.{take-suc}
 use Rattle.std.proofs.lemmas.Option.{get_or_from_slice_get, slice_get_within}
 use Rattle.std.specs.declared.cmp.Ordering.{Ordering}
 use Rattle.std.specs.declared.cmp.Ordering.TheVariants.{Less, Equal, Greater}
-use Rattle.std.specs.Ordering.{is_eq, is_lt}
+use Rattle.std.specs.Ordering.{is_lt}
 use Rattle.std.specs.Cmp.{tied_itself}
 use Rattle.std.specs.FinMap.{FinMap}
 use Rattle.az_base.specs.declared.block_id.BlockId.{BlockId}
-use Rattle.az_base.specs.Ids.{id_cmp, same_id, ids_total, exact_ids, among}
+use Rattle.az_base.specs.Ids.{id_cmp, ids_total, among}
+use Rattle.az_base.proofs.Ids.{among_cases, among_kept, among_last}
 use Rattle.retain_table.specs.Counted.{comes_before, nearer_of, IsOrder, IsNextHeld}
 
 -- it is the least of these ids that isn't below the first
@@ -22,14 +23,6 @@ less Less e = refl
 less Equal e = cc
 less Greater e = cc
 
-equal : (r : Ordering) → is_eq r ≡ true → r ≡ Equal
-equal Less e = cc
-equal Equal e = refl
-equal Greater e = cc
-
-one_id : (a b : BlockId) → same_id a b ≡ true → a ≡ b
-one_id a b e = exact_ids a b (equal _ e)
-
 not_before_itself : (a : BlockId) → comes_before a a ≡ false
 not_before_itself a = ap is_lt (tied_itself ids_total a)
 
@@ -38,45 +31,20 @@ before_both a b c e f = ap is_lt (ids_total.trans a b c (less _ e) (less _ f))
 
 -- among a list with one more at its end
 either : (ids : List BlockId) (x q : BlockId) → among (ids ++ x ∷ []) q ≡ true → (P : Type 0) → (among ids q ≡ true → P) → (q ≡ x → P) → P
-either [] x q h P early last = last (one_id q x (sym (only (same_id q x)) ∙ h))
-  where
-    only : (b : Bool) → (b || false) ≡ b
-    only true = refl
-    only false = refl
-either (y ∷ ids) x q h P early last = by (same_id q y) refl (λ g. either ids x q g P)
-  where
-    by : (b : Bool) → same_id q y ≡ b → (among (ids ++ x ∷ []) q ≡ true → (among ids q ≡ true → P) → (q ≡ x → P) → P) → P
-    by true e rest = early (ap (λ t. t || among ids q) e)
-    by false e rest = rest (sym (ap (λ t. t || among (ids ++ x ∷ []) q) e) ∙ h) (λ g. early (ap (λ t. t || among ids q) e ∙ g)) last
-
-still : (ids : List BlockId) (x q : BlockId) → among ids q ≡ true → among (ids ++ x ∷ []) q ≡ true
-still [] x q h = absurd (true≢false (sym h))
-still (y ∷ ids) x q h = by (same_id q y) refl (still ids x q)
-  where
-    by : (b : Bool) → same_id q y ≡ b → (among ids q ≡ true → among (ids ++ x ∷ []) q ≡ true) → (same_id q y || among (ids ++ x ∷ []) q) ≡ true
-    by true e rest = ap (λ t. t || among (ids ++ x ∷ []) q) e
-    by false e rest = ap (λ t. t || among (ids ++ x ∷ []) q) e ∙ rest (sym (ap (λ t. t || among ids q) e) ∙ h)
-
-itself : (ids : List BlockId) (x : BlockId) → among (ids ++ x ∷ []) x ≡ true
-itself [] x = ap (λ r. is_eq r || false) (tied_itself ids_total x)
-itself (y ∷ ids) x = by (same_id x y) (itself ids x)
-  where
-    by : (b : Bool) → among (ids ++ x ∷ []) x ≡ true → (b || among (ids ++ x ∷ []) x) ≡ true
-    by true h = refl
-    by false h = h
+either ids x q h P early last = elim (among_cases ids x q h) [ inl g ↦ early g | inr s ↦ last s ]
 
 pub nearest-more : (from : BlockId) (ids : List BlockId) (next : Option BlockId) (x : BlockId) → IsNearest from ids next → IsNearest from (ids ++ x ∷ []) (nearer_of from next x)
 nearest-more from ids None x was = by (comes_before x from) refl
   where
     by : (b : Bool) → comes_before x from ≡ b → IsNearest from (ids ++ x ∷ []) (if b then None else Some x)
     by true e = λ q h. either ids x q h (comes_before q from ≡ true) (was q) (λ s. ap (λ y. comes_before y from) s ∙ e)
-    by false e = (itself ids x, e, λ q h f. either ids x q h (comes_before q x ≡ false) (λ g. absurd (true≢false (sym (was q g) ∙ f))) (λ s. ap (λ y. comes_before y x) s ∙ not_before_itself x))
+    by false e = (among_last ids x, e, λ q h f. either ids x q h (comes_before q x ≡ false) (λ g. absurd (true≢false (sym (was q g) ∙ f))) (λ s. ap (λ y. comes_before y x) s ∙ not_before_itself x))
 nearest-more from ids (Some y) x was = by (comes_before x from) refl (comes_before x y) refl
   where
     by : (b : Bool) → comes_before x from ≡ b → (d : Bool) → comes_before x y ≡ d → IsNearest from (ids ++ x ∷ []) (if b || not d then Some y else Some x)
-    by true e d g = (still ids x y was.0, was.1, λ q h f. either ids x q h (comes_before q y ≡ false) (λ k. was.2 q k f) (λ s. absurd (true≢false (sym e ∙ sym (ap (λ z. comes_before z from) s) ∙ f))))
-    by false e false g = (still ids x y was.0, was.1, λ q h f. either ids x q h (comes_before q y ≡ false) (λ k. was.2 q k f) (λ s. ap (λ z. comes_before z y) s ∙ g))
-    by false e true g = (itself ids x, e, λ q h f. either ids x q h (comes_before q x ≡ false) (λ k. later q k f (comes_before q x) refl) (λ s. ap (λ z. comes_before z x) s ∙ not_before_itself x))
+    by true e d g = (among_kept ids x y was.0, was.1, λ q h f. either ids x q h (comes_before q y ≡ false) (λ k. was.2 q k f) (λ s. absurd (true≢false (sym e ∙ sym (ap (λ z. comes_before z from) s) ∙ f))))
+    by false e false g = (among_kept ids x y was.0, was.1, λ q h f. either ids x q h (comes_before q y ≡ false) (λ k. was.2 q k f) (λ s. ap (λ z. comes_before z y) s ∙ g))
+    by false e true g = (among_last ids x, e, λ q h f. either ids x q h (comes_before q x ≡ false) (λ k. later q k f (comes_before q x) refl) (λ s. ap (λ z. comes_before z x) s ∙ not_before_itself x))
       where
         later : (q : BlockId) → among ids q ≡ true → comes_before q from ≡ false → (t : Bool) → comes_before q x ≡ t → comes_before q x ≡ false
         later q k f true t = absurd (true≢false (sym (before_both q x y t g) ∙ was.2 q k f))

@@ -54,13 +54,9 @@ impl Counts {
         ensures err { OnErr result (self.new ≡ self.old) }
     {
         let spare = self.spare.max(1);
-        match self.counts.reserve(spare) {
-            Ok(()) => {
-                self.spare = spare;
-                Ok(())
-            }
-            Err(_) => Err(NoMemory),
-        }
+        self.counts.reserve(spare)?;
+        self.spare = spare;
+        Ok(())
     }
 
     /// The count rises by one, and the answer is the new count. O(1).
@@ -80,10 +76,8 @@ impl Counts {
             self.change(id, count + 1);
             return Ok(count + 1);
         }
-        match self.enter(id) {
-            Ok(()) => Ok(1),
-            Err(NoMemory) => Err(Raise::NoMemory),
-        }
+        self.enter(id)?;
+        Ok(1)
     }
 
     /// The count falls by one, and the answer is the new count; refused exactly at 0. O(1), without memory.
@@ -126,9 +120,7 @@ impl Counts {
         ensures full { OnErr result (self.old.spare ≡ 0) }
         ensures err { OnErr result (self.new ≡ self.old) }
     {
-        let Ok(_) = self.counts.insert(id, 1) else {
-            return Err(NoMemory);
-        };
+        let _ = self.counts.insert(id, 1)?;
         self.spare = self.spare.saturating_sub(1);
         Ok(())
     }

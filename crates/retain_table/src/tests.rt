@@ -10,37 +10,43 @@ fn block(serial: u32) -> BlockId {
     BlockId { thread, serial }
 }
 
+fn rises_and_falls(counts: &mut Counts, id: BlockId) -> bool {
+    counts.reserve_one() == Ok(())
+        && counts.raise(id, 2) == Ok(1)
+        && counts.raise(id, 2) == Ok(2)
+        && counts.raise(id, 2) == Err(Raise::CountFull)
+        && counts.count(id) == 2
+        && counts.lower(id) == Ok(1)
+        && counts.len() == 1
+        && counts.lower(id) == Ok(0)
+        && counts.lower(id) == Err(OverRelease)
+        && counts.len() == 0
+}
+
 #[test]
 fn rises_to_the_limit_and_falls_to_nothing(rt: HostRuntime) -> Result<(), Fail> {
     let mut counts = Counts::new(rt.alloc());
-    let id = block(0);
-    assert_eq!(rt; counts.reserve_one(), Ok(()));
-    assert_eq!(rt; counts.raise(id, 2), Ok(1));
-    assert_eq!(rt; counts.raise(id, 2), Ok(2));
-    assert_eq!(rt; counts.raise(id, 2), Err(Raise::CountFull));
-    assert_eq!(rt; counts.count(id), 2);
-    assert_eq!(rt; counts.lower(id), Ok(1));
-    assert_eq!(rt; counts.len(), 1);
-    assert_eq!(rt; counts.lower(id), Ok(0));
-    assert_eq!(rt; counts.lower(id), Err(OverRelease));
-    assert_eq!(rt; counts.len(), 0);
+    assert!(rt; rises_and_falls(&mut counts, block(0)));
     Ok(())
+}
+
+fn walks(counts: &mut Counts, a: BlockId, b: BlockId, c: BlockId) -> bool {
+    counts.raise(a, 9) == Ok(1)
+        && counts.raise(b, 9) == Ok(1)
+        && counts.raise(c, 9) == Ok(1)
+        && counts.next_held(b) == Some(b)
+        && counts.next_held(block(4)) == Some(c)
+        && counts.next_held(block(8)) == None
+        && counts.lower(a) == Ok(0)
+        && counts.next_held(a) == None
+        && counts.nth(0).is_some()
+        && counts.nth(1).is_some()
+        && counts.nth(2).is_none()
 }
 
 #[test]
 fn walks_over_the_counted_blocks(rt: HostRuntime) -> Result<(), Fail> {
     let mut counts = Counts::new(rt.alloc());
-    let (a, b, c) = (block(7), block(3), block(5));
-    for id in [a, b, c] {
-        assert_eq!(rt; counts.raise(id, 9), Ok(1));
-    }
-    assert_eq!(rt; counts.next_held(b), Some(b));
-    assert_eq!(rt; counts.next_held(block(4)), Some(c));
-    assert_eq!(rt; counts.next_held(block(8)), None);
-    assert_eq!(rt; counts.lower(a), Ok(0));
-    assert_eq!(rt; counts.next_held(a), None);
-    assert_eq!(rt; counts.nth(0).is_some(), true);
-    assert_eq!(rt; counts.nth(1).is_some(), true);
-    assert_eq!(rt; counts.nth(2), None);
+    assert!(rt; walks(&mut counts, block(7), block(3), block(5)));
     Ok(())
 }

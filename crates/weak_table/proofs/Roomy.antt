@@ -6,9 +6,9 @@ use Rattle.std.specs.Map.{lookup}
 use Rattle.smallvec.specs.SmallVec.{SmallVec}
 use Rattle.az_base.specs.declared.block_id.BlockId.{BlockId}
 use Rattle.az_base.specs.declared.weak_loc.WeakLoc.{WeakLoc}
-use Rattle.weak_table.specs.Locs.{id_eq}
+use Rattle.az_base.specs.Ids.{id_eq}
 use Rattle.weak_table.specs.Lists.{list_in, members_at, is_tight, IsRoomy, SameMembers}
-use Rattle.weak_table.proofs.SameKeys.{one_id}
+use Rattle.az_base.proofs.Ids.{eq_is}
 
 -- the group's list is this one now, and the others stay
 abbrev pub Relists : BlockId → Option (SmallVec WeakLoc) → List (BlockId × SmallVec WeakLoc) → List (BlockId × SmallVec WeakLoc) → Type 0
@@ -30,7 +30,7 @@ module _ (es fs : List (BlockId × SmallVec WeakLoc)) (group : BlockId) where
   roomy-with tight w is has was b v h t = by (id_eq group b) refl (sym (is b) ∙ h)
     where
       by : (s : Bool) → id_eq group b ≡ s → cond s (Some w) (lookup (id_eq b) es) ≡ Some v → length v.items < v.capacity
-      by true e g = subst (λ (x : SmallVec WeakLoc). length x.items < x.capacity) (same_list w v g) (has (ap (is_tight tight) (one_id group b e) ∙ t))
+      by true e g = subst (λ (x : SmallVec WeakLoc). length x.items < x.capacity) (same_list w v g) (has (ap (is_tight tight) (eq_is group b e) ∙ t))
       by false e g = was b v g t
 
   -- a list that grew may be full
@@ -50,7 +50,7 @@ module _ (es fs : List (BlockId × SmallVec WeakLoc)) (group : BlockId) where
   roomy-none none was b v h t = by (id_eq group b) refl
     where
       by : (s : Bool) → id_eq group b ≡ s → length v.items < v.capacity
-      by true e = absurd (nothing v (sym none ∙ ap (λ x. lookup (id_eq x) es) (one_id group b e) ∙ h))
+      by true e = absurd (nothing v (sym none ∙ ap (λ x. lookup (id_eq x) es) (eq_is group b e) ∙ h))
       by false e = was b v h e
 
   pub roomy-gone : (tight : Option BlockId) → Relists group None es fs → IsRoomy tight es → IsRoomy tight fs
@@ -65,7 +65,7 @@ module _ (es fs : List (BlockId × SmallVec WeakLoc)) (group : BlockId) where
   members-gone none is b = ap list_in (is b) ∙ by (id_eq group b) refl
     where
       by : (s : Bool) → id_eq group b ≡ s → list_in (cond s None (lookup (id_eq b) es)) ≡ members_at es b
-      by true e = sym none ∙ ap (members_at es) (one_id group b e)
+      by true e = sym none ∙ ap (members_at es) (eq_is group b e)
       by false e = refl
 
   pub members-left : (at : ℕ) (d : WeakLoc) (v w : SmallVec WeakLoc) → lookup (id_eq group) es ≡ Some v → Relists group (Some w) es fs → w.items ≡ swap_remove v.items at d

@@ -9,26 +9,28 @@ use Rattle.az_base.specs.declared.weak_loc.WeakLoc.{WeakLoc}
 use Rattle.az_base.specs.declared.weak_loc.WeakLoc.TheVariants as loc
 use Rattle.az_base.specs.Ids.{same_id, among, ids_total}
 use Rattle.az_base.specs.Places.{loc_cmp, locs_total, exact_locs}
-use Rattle.weak_table.specs.Locs.{id_eq, same_loc}
+use Rattle.az_base.specs.Ids.{id_eq}
+use Rattle.az_base.specs.Places.{loc_eq}
 use Rattle.weak_table.specs.Grouped.{Grouped}
 use Rattle.weak_table.specs.Shows.{shows_one, shows, block_of, is_word_of, IsWeak}
-use Rattle.weak_table.proofs.SameKeys.{eq_ids, eq_locs, one_id, one_loc, id_itself, loc_itself}
+use Rattle.az_base.proofs.Ids.{eq_ids, eq_is, eq_self}
+use Rattle.az_base.proofs.Places.{eq_locs, loc_is, loc_self}
 
-turn : (a b : WeakLoc) → same_loc a b ≡ eq_by_cmp loc_cmp b a
+turn : (a b : WeakLoc) → loc_eq a b ≡ eq_by_cmp loc_cmp b a
 turn a b = eq_locs a b ∙ (eq_by_cmp_equiv locs_total).symm a b
 
-pub get-removed : (m : FinMap loc_cmp BlockId) (l q : WeakLoc) → get (remove m l) q ≡ cond (same_loc l q) None (get m q)
+pub get-removed : (m : FinMap loc_cmp BlockId) (l q : WeakLoc) → get (remove m l) q ≡ cond (loc_eq l q) None (get m q)
 get-removed m l q = get-remove locs_total m l q ∙ ap (λ t. cond t None (get m q)) (sym (turn l q))
 
-pub get-added : (m : FinMap loc_cmp BlockId) (l : WeakLoc) (v : BlockId) (q : WeakLoc) → get (insert m l v) q ≡ cond (same_loc l q) (Some v) (get m q)
+pub get-added : (m : FinMap loc_cmp BlockId) (l : WeakLoc) (v : BlockId) (q : WeakLoc) → get (insert m l v) q ≡ cond (loc_eq l q) (Some v) (get m q)
 get-added m l v q = get-insert locs_total m l v q ∙ ap (λ t. cond t (Some v) (get m q)) (sym (turn l q))
 
 pub removed-there : (m : FinMap loc_cmp BlockId) (l : WeakLoc) → get (remove m l) l ≡ None
-removed-there m l = get-removed m l l ∙ ap (λ t. cond t None (get m l)) (loc_itself l)
+removed-there m l = get-removed m l l ∙ ap (λ t. cond t None (get m l)) (loc_self l)
 
 -- what is taken away first makes no difference
 pub added-again : (m : FinMap loc_cmp BlockId) (l : WeakLoc) (v : BlockId) → insert (remove m l) l v ≡ insert m l v
-added-again m l v = same_map locs_total exact_locs _ _ (λ q. get-added (remove m l) l v q ∙ ap (cond (same_loc l q) (Some v)) (get-removed m l q) ∙ by q (same_loc l q) ∙ sym (get-added m l v q))
+added-again m l v = same_map locs_total exact_locs _ _ (λ q. get-added (remove m l) l v q ∙ ap (cond (loc_eq l q) (Some v)) (get-removed m l q) ∙ by q (loc_eq l q) ∙ sym (get-added m l v q))
   where
     by : (q : WeakLoc) (t : Bool) → cond t (Some v) (cond t None (get m q)) ≡ cond t (Some v) (get m q)
     by q true = refl
@@ -37,7 +39,7 @@ added-again m l v = same_map locs_total exact_locs _ _ (λ q. get-added (remove 
 module _ (shown words : Grouped) (ready : Option BlockId) (w : IsWeak shown words ready) (s t : Grouped) (l : WeakLoc) where
   pub cleared-weak : s.groups ≡ remove shown.groups l → t.groups ≡ remove words.groups l → s.room ≡ shown.room → t.room ≡ words.room → IsWeak s t ready
   cleared-weak e f r u = record {
-    owned = λ q. ap (λ m. get m q) f ∙ get-removed words.groups l q ∙ ap (cond (same_loc l q) None) (w.owned q) ∙ by q (same_loc l q)
+    owned = λ q. ap (λ m. get m q) f ∙ get-removed words.groups l q ∙ ap (cond (loc_eq l q) None) (w.owned q) ∙ by q (loc_eq l q)
         ∙ ap (λ o. cond (is_some o) (block_of q) None) (sym (ap (λ m. get m q) e ∙ get-removed shown.groups l q));
     room = λ v h. (r ∙ (w.room v h).0, u ∙ (w.room v h).1);
   }
@@ -48,18 +50,18 @@ module _ (shown words : Grouped) (ready : Option BlockId) (w : IsWeak shown word
 
   pub word-weak : (v b : BlockId) (i : ℕ) → l ≡ loc.Word b i → s.groups ≡ insert shown.groups l v → t.groups ≡ insert words.groups l b → IsWeak s t None
   word-weak v b i is e f = record {
-    owned = λ q. ap (λ m. get m q) f ∙ get-added words.groups l b q ∙ by q (same_loc l q) refl
+    owned = λ q. ap (λ m. get m q) f ∙ get-added words.groups l b q ∙ by q (loc_eq l q) refl
         ∙ ap (λ o. cond (is_some o) (block_of q) None) (sym (ap (λ m. get m q) e ∙ get-added shown.groups l v q));
     room = λ v h. cc;
   }
     where
-      by : (q : WeakLoc) (t : Bool) → same_loc l q ≡ t → cond t (Some b) (get words.groups q) ≡ cond (is_some (cond t (Some v) (get shown.groups q))) (block_of q) None
-      by q true h = sym (ap block_of (sym (one_loc l q h) ∙ is))
+      by : (q : WeakLoc) (t : Bool) → loc_eq l q ≡ t → cond t (Some b) (get words.groups q) ≡ cond (is_some (cond t (Some v) (get shown.groups q))) (block_of q) None
+      by q true h = sym (ap block_of (sym (loc_is l q h) ∙ is))
       by q false h = w.owned q
 
   pub root-weak : (v : BlockId) → ((b : BlockId) (i : ℕ) → l ≡ loc.Word b i → ⊥) → s.groups ≡ insert shown.groups l v → IsWeak s words None
   root-weak v not_word e = record {
-    owned = λ q. by q (same_loc l q) refl ∙ ap (λ o. cond (is_some o) (block_of q) None) (sym (ap (λ m. get m q) e ∙ get-added shown.groups l v q));
+    owned = λ q. by q (loc_eq l q) refl ∙ ap (λ o. cond (is_some o) (block_of q) None) (sym (ap (λ m. get m q) e ∙ get-added shown.groups l v q));
     room = λ v h. cc;
   }
     where
@@ -71,8 +73,8 @@ module _ (shown words : Grouped) (ready : Option BlockId) (w : IsWeak shown word
       same_none q true e = refl
       same_none q false e = sym e
 
-      by : (q : WeakLoc) (t : Bool) → same_loc l q ≡ t → get words.groups q ≡ cond (is_some (cond t (Some v) (get shown.groups q))) (block_of q) None
-      by q true h = w.owned q ∙ same_none q (is_some (get shown.groups q)) (ap block_of (sym (one_loc l q h)) ∙ not_in l not_word)
+      by : (q : WeakLoc) (t : Bool) → loc_eq l q ≡ t → get words.groups q ≡ cond (is_some (cond t (Some v) (get shown.groups q))) (block_of q) None
+      by q true h = w.owned q ∙ same_none q (is_some (get shown.groups q)) (ap block_of (sym (loc_is l q h)) ∙ not_in l not_word)
       by q false h = w.owned q
 
 zero_or : (n : ℕ) → (n ≡ 0) ⊎ (0 < n)
@@ -109,10 +111,10 @@ pub dropped-none : (T : WeakLoc → Bool) (m : FinMap loc_cmp BlockId) → Dropp
 dropped-none T m q = inl refl
 
 pub dropped-more : (T : WeakLoc → Bool) (m n : FinMap loc_cmp BlockId) (l : WeakLoc) → Dropped T m n → T l ≡ true → Dropped T m (remove n l)
-dropped-more T m n l was passes q = by (same_loc l q) refl (was q)
+dropped-more T m n l was passes q = by (loc_eq l q) refl (was q)
   where
-    by : (t : Bool) → same_loc l q ≡ t → (get n q ≡ get m q) ⊎ ((get n q ≡ None) × (T q ≡ true)) → (get (remove n l) q ≡ get m q) ⊎ ((get (remove n l) q ≡ None) × (T q ≡ true))
-    by true e h = inr (get-removed n l q ∙ ap (λ t. cond t None (get n q)) e, ap T (sym (one_loc l q e)) ∙ passes)
+    by : (t : Bool) → loc_eq l q ≡ t → (get n q ≡ get m q) ⊎ ((get n q ≡ None) × (T q ≡ true)) → (get (remove n l) q ≡ get m q) ⊎ ((get (remove n l) q ≡ None) × (T q ≡ true))
+    by true e h = inr (get-removed n l q ∙ ap (λ t. cond t None (get n q)) e, ap T (sym (loc_is l q e)) ∙ passes)
     by false e (inl h) = inl (get-removed n l q ∙ ap (λ t. cond t None (get n q)) e ∙ h)
     by false e (inr h) = inr (get-removed n l q ∙ ap (λ t. cond t None (get n q)) e ∙ h.0, h.1)
 
@@ -126,10 +128,10 @@ dropped-all T m n was none = same_map locs_total exact_locs _ _ (λ q. by q (T q
 
 a_block : (o : Option BlockId) (id : BlockId) → shows id o ≡ true → o ≡ Some id
 a_block None id e = absurd (true≢false (sym e))
-a_block (Some v) id e = ap Some (sym (one_id id v (eq_ids id v ∙ e)))
+a_block (Some v) id e = ap Some (sym (eq_is id v (eq_ids id v ∙ e)))
 
 itself : (id : BlockId) (o : Option BlockId) → o ≡ Some id → shows id o ≡ true
-itself id o e = ap (shows id) e ∙ sym (eq_ids id id) ∙ id_itself id
+itself id o e = ap (shows id) e ∙ sym (eq_ids id id) ∙ eq_self id
 
 -- the locations that show one block
 module _ (id : BlockId) (m n : FinMap loc_cmp BlockId) (was : Dropped (λ l. shows id (get m l)) m n) where
@@ -164,14 +166,14 @@ module _ (shown words : Grouped) (ready : Option BlockId) (w : IsWeak shown word
 
       by : (k : WeakLoc) → block_of k ≡ Some block → is_word_of block k ≡ true
       by (loc.Root n) e = cc
-      by (loc.Word b i) e = sym (eq_ids block b) ∙ ap (id_eq block) (sym (same b e)) ∙ id_itself block
+      by (loc.Word b i) e = sym (eq_ids block b) ∙ ap (id_eq block) (sym (same b e)) ∙ eq_self block
 
   pub word-none : ((q : WeakLoc) → get words.groups q ≡ Some block → ⊥) → (q : WeakLoc) → is_word_of block q ≡ true → get shown.groups q ≡ None
   word-none none q e = by (get shown.groups q) refl
     where
       its_block : (k : WeakLoc) → is_word_of block k ≡ true → block_of k ≡ Some block
       its_block (loc.Root n) e = absurd (true≢false (sym e))
-      its_block (loc.Word b i) e = ap Some (sym (one_id block b (eq_ids block b ∙ e)))
+      its_block (loc.Word b i) e = ap Some (sym (eq_is block b (eq_ids block b ∙ e)))
 
       by : (o : Option BlockId) → get shown.groups q ≡ o → get shown.groups q ≡ None
       by None h = h

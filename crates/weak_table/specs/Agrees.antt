@@ -3,7 +3,7 @@ use Rattle.std.specs.Prelude.{◌≡◌, ℕ, Bool, false, List, Option, Some, N
 use Rattle.az_base.specs.declared.block_id.BlockId.{BlockId}
 use Rattle.az_base.specs.declared.weak_loc.WeakLoc.{WeakLoc}
 use Rattle.weak_table.specs.Seats.{Seat}
-use Rattle.weak_table.specs.Locs.{same_loc}
+use Rattle.az_base.specs.Places.{loc_eq}
 
 -- the place in the group's list
 abbrev pub place : BlockId → ℕ → Seat
@@ -12,7 +12,7 @@ place b i = record { group = b; at = i }
 -- there is a location, and it is this one
 abbrev pub is_one : Option WeakLoc → WeakLoc → Bool
 is_one None l = false
-is_one (Some m) l = same_loc m l
+is_one (Some m) l = loc_eq m l
 
 -- a location's place is where its group's list has it, and what stands in a list has its place there
 pub record Agrees (places : WeakLoc → Option Seat) (lists : BlockId → List WeakLoc) : Type 0 where

@@ -11,7 +11,8 @@ use Rattle.az_base.specs.declared.weak_loc.WeakLoc.{WeakLoc}
 use Rattle.az_base.specs.Id.{coded_id}
 use Rattle.az_base.specs.Places.{loc_cmp}
 use Rattle.weak_table.specs.Seats.{Seat}
-use Rattle.weak_table.specs.Locs.{coded_loc, same_loc}
+use Rattle.az_base.specs.Codes.{coded_loc}
+use Rattle.az_base.specs.Places.{loc_eq}
 use Rattle.weak_table.specs.Lists.{members_at, IsRoomy}
 use Rattle.weak_table.specs.Agrees.{Agrees}
 
@@ -34,6 +35,6 @@ shown_groups es = from_entries (with_groups es)
 
 -- the places agree with the lists; only the tight list may be full; and where there is room, none is
 pub record IsIndexed {S U : Type 0} (places : HashMap WeakLoc Seat S) (lists : HashMap BlockId (SmallVec WeakLoc) U) (tight : Option BlockId) (room : Bool) : Type 0 where
-  pub agrees : Agrees (λ l. lookup (same_loc l) places.entries) (λ b. members_at lists.entries b)
+  pub agrees : Agrees (λ l. lookup (loc_eq l) places.entries) (λ b. members_at lists.entries b)
   pub roomy : IsRoomy tight lists.entries
   pub ready : room ≡ true → (tight ≡ None) × (0 < spare places) × (0 < spare lists)

@@ -5,7 +5,7 @@ use Rattle.std.specs.Map.{lookup}
 use Rattle.smallvec.specs.SmallVec.{SmallVec}
 use Rattle.az_base.specs.declared.block_id.BlockId.{BlockId}
 use Rattle.az_base.specs.declared.weak_loc.WeakLoc.{WeakLoc}
-use Rattle.weak_table.specs.Locs.{id_eq}
+use Rattle.az_base.specs.Ids.{id_eq}
 
 -- the locations of a list, none where there is no list
 abbrev pub list_in : Option (SmallVec WeakLoc) → List WeakLoc

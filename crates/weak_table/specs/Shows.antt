@@ -2,16 +2,15 @@
 use Rattle.std.specs.Prelude.{◌≡◌, Bool, true, false, cond, List, Option, Some, None, is_some, refl}
 use Rattle.std.specs.Coded.{Coded, code_by, coded×, coded_option}
 use Rattle.std.specs.FinMap as finite
-use Rattle.std.specs.FinMap.{FinMap, get, insert, remove}
+use Rattle.std.specs.FinMap.{FinMap, get}
 use Rattle.std.specs.Option.{option_map_or}
-use Rattle.std.specs.declared.cmp.Ordering.{Ordering}
 use Rattle.az_base.specs.declared.block_id.BlockId.{BlockId}
 use Rattle.az_base.specs.declared.weak_loc.WeakLoc.{WeakLoc}
 use Rattle.az_base.specs.declared.weak_loc.WeakLoc.TheVariants as loc
 use Rattle.az_base.specs.Id.{coded_id}
 use Rattle.az_base.specs.Ids.{same_id, among}
 use Rattle.az_base.specs.Places.{loc_cmp}
-use Rattle.weak_table.specs.Locs.{coded_loc}
+use Rattle.az_base.specs.Codes.{coded_loc}
 use Rattle.weak_table.specs.Grouped.{Grouped}
 
 -- the block that each location shows, where it shows one, and the block for which there is room for one location more
@@ -22,12 +21,6 @@ pub record Shows : Type 0 where
 -- as a pair
 abbrev pub coded_shows : Coded Shows
 coded_shows = code_by (FinMap loc_cmp BlockId × Option BlockId) (coded× (finite.code coded_loc coded_id) (coded_option coded_id)) (λ s. (s.shown, s.ready)) (λ p. record { shown = p.0; ready = p.1 }) (λ _. refl)
-
-module _ {K X : Type 0} {R : K → K → Ordering} where
-  -- the map with this value at the key, or with none there
-  abbrev pub with_value : FinMap R X → K → Option X → FinMap R X
-  with_value m k None = remove m k
-  with_value m k (Some x) = insert m k x
 
 -- what the location shows is one of these blocks
 abbrev pub shows_one : List BlockId → Option BlockId → Bool

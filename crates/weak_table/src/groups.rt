@@ -80,15 +80,9 @@ impl Groups {
         ensures ok { OnOk result (self.new.room ≡ true) }
         ensures err { OnErr result (self.new.room ≡ self.old.room) }
     {
-        let Ok(()) = self.places.reserve(1) else {
-            return Err(NoMemory);
-        };
-        let Ok(()) = self.lists.reserve(1) else {
-            return Err(NoMemory);
-        };
-        let Ok(()) = widen(&mut self.lists, self.tight) else {
-            return Err(NoMemory);
-        };
+        self.places.reserve(1)?;
+        self.lists.reserve(1)?;
+        widen(&mut self.lists, self.tight)?;
         self.tight = None;
         self.room = true;
         Ok(())

@@ -4,7 +4,7 @@ ghost use Rattle.std.specs.List.{swap_remove};
 ghost use Rattle.std.specs.Option.{IfSome};
 ghost use Rattle.indexmap.specs.IndexMap.{spare};
 ghost use Rattle.az_base.specs.declared.block_id.BlockId.{BlockId};
-ghost use Rattle.weak_table.specs.Locs.{id_eq};
+ghost use Rattle.az_base.specs.Ids.{id_eq};
 ghost use Rattle.weak_table.specs.Lists.{members_at, IsRoomy, SameMembers, Enters, Leaves};
 
 use crate::member::Member;
@@ -95,10 +95,8 @@ pub fn widen(
     let Some(list) = lists.get_mut(&group) else {
         unreachable!()
     };
-    match list.reserve(1) {
-        Ok(()) => Ok(()),
-        Err(_) => Err(NoMemory),
-    }
+    list.reserve(1)?;
+    Ok(())
 }
 
 // An empty list goes.

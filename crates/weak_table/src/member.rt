@@ -13,7 +13,7 @@ pub struct Member {
 
 impl Model for Member {
     ghost use Rattle.az_base.specs.declared.weak_loc.WeakLoc.{WeakLoc};
-    ghost use Rattle.weak_table.specs.Locs.{coded_loc};
+    ghost use Rattle.az_base.specs.Codes.{coded_loc};
 
     ghost Value = { WeakLoc };
 

@@ -2,7 +2,8 @@
 ghost use Rattle.std.specs.Prelude.{◌≡◌, ◌<◌, ◌≤◌, None, Some, IsSome, IfNone};
 ghost use Rattle.indexmap.specs.IndexMap.{spare};
 ghost use Rattle.std.specs.Map.{lookup};
-ghost use Rattle.weak_table.specs.Locs.{same_loc, Puts};
+ghost use Rattle.az_base.specs.Places.{loc_eq};
+ghost use Rattle.weak_table.specs.Locs.{Puts};
 
 use az_base::{BlockId, WeakLoc};
 use indexmap::IndexMap;
@@ -29,7 +30,7 @@ impl Model for Place {
 
 /// The location's place. O(1).
 pub fn place_of(places: &IndexMap<WeakLoc, Place>, loc: WeakLoc) -> Option<Place>
-    ensures { result ≡ lookup (same_loc loc) places.now.entries }
+    ensures { result ≡ lookup (loc_eq loc) places.now.entries }
 {
     match places.get(&loc) {
         Some(place) => Some(*place),
@@ -49,7 +50,7 @@ pub fn put_place(places: &mut IndexMap<WeakLoc, Place>, loc: WeakLoc, place: Pla
 
 /// The location gets another place. O(1).
 pub fn change_place(places: &mut IndexMap<WeakLoc, Place>, loc: WeakLoc, place: Place)
-    requires { IsSome (lookup (same_loc loc) places.old.entries) }
+    requires { IsSome (lookup (loc_eq loc) places.old.entries) }
     ensures puts { Puts loc (Some place) places.old.entries places.new.entries }
     ensures spare { spare places.new ≡ spare places.old }
 {
@@ -61,7 +62,7 @@ pub fn change_place(places: &mut IndexMap<WeakLoc, Place>, loc: WeakLoc, place: 
 
 /// The location loses its place, if it has one. O(1).
 pub fn take_place(places: &mut IndexMap<WeakLoc, Place>, loc: WeakLoc) -> Option<Place>
-    ensures place { result ≡ lookup (same_loc loc) places.old.entries }
+    ensures place { result ≡ lookup (loc_eq loc) places.old.entries }
     ensures puts { Puts loc None places.old.entries places.new.entries }
     ensures unchanged { IfNone result (places.new.entries ≡ places.old.entries) }
     ensures spare { spare places.old ≤ spare places.new }

@@ -33,7 +33,8 @@ impl Model for Weak {
 
 impl Weak {
     ghost use Rattle.std.specs.Prelude.{not};
-    ghost use Rattle.weak_table.specs.Shows.{with_value, shows, shows_one, is_word_of};
+    ghost use Rattle.az_base.specs.WithValue.{with_value};
+    ghost use Rattle.weak_table.specs.Shows.{shows, shows_one, is_word_of};
 
     /// Every location shows null.
     pub fn new(alloc: Global) -> Weak
@@ -72,12 +73,8 @@ impl Weak {
         if self.ready == Some(*value) {
             return Ok(());
         }
-        let Ok(()) = self.shown.reserve_one() else {
-            return Err(NoMemory);
-        };
-        let Ok(()) = self.words.reserve_one() else {
-            return Err(NoMemory);
-        };
+        self.shown.reserve_one()?;
+        self.words.reserve_one()?;
         self.ready = Some(*value);
         Ok(())
     }

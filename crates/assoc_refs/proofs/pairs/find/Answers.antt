@@ -1,6 +1,6 @@
 use Rattle.std.proofs.Common.{◌≡◌, ap, ◌∙◌, sym, subst, arith, ◌<◌, ◌≤◌, Some, length}
 use Rattle.std.proofs.lemmas.Grind.{common_steps}
-use Rattle.assoc_refs.proofs.Places.{plain-item, plain-length, the_key}
+use Rattle.assoc_refs.proofs.Places.{numbered-item, numbered-length, the_key}
 use Rattle.assoc_refs.proofs.pairs.find.Goals as goal
 
 pub returns-then-eq : goal.returns-then-eq
@@ -8,7 +8,7 @@ returns-then-eq c =
     let x = c.index-list-place.result in
     let here : c.place_of-place.result < length c.args.list.now = omega (arith, c.place_of-place.ensures.within) in
     let same : x.0.0 ≡ c.args.key.0 = grind (arith, common_steps) in
-    (c.place_of-place.ensures.place, x.1, plain-item c.args.list.now c.place_of-place.result x here c.index-list-place.is ∙ ap (λ k. Some (k, x.1)) same)
+    (c.place_of-place.ensures.place, x.1, numbered-item c.args.list.now c.place_of-place.result x here c.index-list-place.is ∙ ap (λ k. Some (k, x.1)) same)
 
 pub returns : goal.returns
 returns c =
@@ -16,6 +16,6 @@ returns c =
     let here : c.place_of-place.result < length c.args.list.now = omega (arith, c.place_of-place.ensures.within) in
     let other : x.0.0 ≡ c.args.key.0 → ⊥ = λ e. grind (arith, common_steps) in (
       c.place_of-place.ensures.place,
-      subst (λ n. c.place_of-place.result ≤ n) (sym (plain-length c.args.list.now)) c.place_of-place.ensures.within,
-      λ v at. other (the_key (x.0.0, x.1) c.args.key.0 v (sym (plain-item c.args.list.now c.place_of-place.result x here c.index-list-place.is) ∙ at)),
+      subst (λ n. c.place_of-place.result ≤ n) (sym (numbered-length c.args.list.now)) c.place_of-place.ensures.within,
+      λ v at. other (the_key (x.0.0, x.1) c.args.key.0 v (sym (numbered-item c.args.list.now c.place_of-place.result x here c.index-list-place.is) ∙ at)),
     )

@@ -1,7 +1,7 @@
 use Rattle.std.proofs.Common.{arith, ◌+◌, ◌-◌, ◌/◌, ◌<◌, ◌≤◌}
 use Rattle.std.proofs.lemmas.Grind.{common_steps}
-use Rattle.assoc_refs.proofs.Places.{narrow-low, narrow-high, plain-item, half_within}
-use Rattle.assoc_refs.specs.Values.{plain}
+use Rattle.assoc_refs.proofs.Places.{narrow-low, narrow-high, numbered-item, half_within}
+use Rattle.assoc_refs.specs.Values.{numbered}
 use Rattle.assoc_refs.proofs.pairs.place_of.Goals as goal
 
 pub loop-low-preserved-then-lt : goal.loop-low-preserved-then-lt
@@ -13,8 +13,8 @@ loop-low-preserved-then-lt c =
     record {
       within = omega (arith, in_half);
       length = c.loop-low.invariant.length;
-      place = narrow-low (plain c.args.list.now) c.args.key.0 c.loop-low.low c.loop-low.high m (x.0.0, x.1) c.requires
-          (plain-item c.args.list.now m x (omega (arith, in_half, c.loop-low.invariant.length)) c.index-list-middle.is) before c.loop-low.invariant.place;
+      place = narrow-low (numbered c.args.list.now) c.args.key.0 c.loop-low.low c.loop-low.high m (x.0.0, x.1) c.requires
+          (numbered-item c.args.list.now m x (omega (arith, in_half, c.loop-low.invariant.length)) c.index-list-middle.is) before c.loop-low.invariant.place;
     }
 
 pub loop-low-preserved : goal.loop-low-preserved
@@ -26,6 +26,6 @@ loop-low-preserved c =
     record {
       within = in_half.0;
       length = omega (arith, in_half, c.loop-low.invariant.length);
-      place = narrow-high (plain c.args.list.now) c.args.key.0 c.loop-low.low c.loop-low.high m (x.0.0, x.1) c.requires
-          (plain-item c.args.list.now m x (omega (arith, in_half, c.loop-low.invariant.length)) c.index-list-middle.is) before c.loop-low.invariant.place;
+      place = narrow-high (numbered c.args.list.now) c.args.key.0 c.loop-low.low c.loop-low.high m (x.0.0, x.1) c.requires
+          (numbered-item c.args.list.now m x (omega (arith, in_half, c.loop-low.invariant.length)) c.index-list-middle.is) before c.loop-low.invariant.place;
     }

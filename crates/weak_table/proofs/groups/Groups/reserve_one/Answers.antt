@@ -8,13 +8,13 @@ invariant_of-self c =
     kept-index c.self.inside.places c.self.inside.lists c.self.inside.tight c.self.inside.room c.self.invariant c.reserve.new.self c.self.inside.lists
     c.reserve.ensures.entries c.reserve.ensures.room.0 (λ b. refl) c.self.invariant.roomy (omega arith)
 
-pub invariant_of-self-in_default-reserve : goal.invariant_of-self-in_default-reserve
-invariant_of-self-in_default-reserve c =
+pub invariant_of-self-in_err-reserve-2 : goal.invariant_of-self-in_err-reserve-2
+invariant_of-self-in_err-reserve-2 c =
     kept-index c.self.inside.places c.self.inside.lists c.self.inside.tight c.self.inside.room c.self.invariant c.reserve.new.self c.reserve-2.new.self
     c.reserve.ensures.entries c.reserve.ensures.room.0 (λ b. ap (λ es. members_at es b) c.reserve-2.ensures.entries) (same_roomy _ _ _ c.reserve-2.ensures.entries c.self.invariant.roomy) c.reserve-2.ensures.room.0
 
-pub invariant_of-self-in_default-widen : goal.invariant_of-self-in_default-widen
-invariant_of-self-in_default-widen c =
+pub invariant_of-self-in_err-widen : goal.invariant_of-self-in_err-widen
+invariant_of-self-in_err-widen c =
     kept-index c.self.inside.places c.self.inside.lists c.self.inside.tight c.self.inside.room c.self.invariant c.reserve.new.self c.widen.new.lists
     c.reserve.ensures.entries c.reserve.ensures.room.0 (λ b. c.widen.ensures.members b ∙ ap (λ es. members_at es b) c.reserve-2.ensures.entries) c.widen.ensures.err
     (let same = c.widen.ensures.spare in let more = c.reserve-2.ensures.room.0 in omega (arith, same, more))
@@ -22,5 +22,5 @@ invariant_of-self-in_default-widen c =
 pub invariant_of-self-2 : goal.invariant_of-self-2
 invariant_of-self-2 c =
     ready-index c.self.inside.places c.self.inside.lists c.self.inside.tight c.self.inside.room c.self.invariant c.reserve.new.self c.widen.new.lists
-    c.reserve.ensures.entries (let one = c.in-Ok.ensures.ok in omega (arith, one)) (λ b. c.widen.ensures.members b ∙ ap (λ es. members_at es b) c.reserve-2.ensures.entries) c.in-Ok-widen.ensures.ok
-    (let same = c.widen.ensures.spare in let one = c.in-Ok-reserve.ensures.ok in omega (arith, same, one))
+    c.reserve.ensures.entries (let one = c.in_ok-reserve.ensures.ok in omega (arith, one)) (λ b. c.widen.ensures.members b ∙ ap (λ es. members_at es b) c.reserve-2.ensures.entries) c.in_ok-widen.ensures.ok
+    (let same = c.widen.ensures.spare in let one = c.in_ok-reserve-2.ensures.ok in omega (arith, same, one))

@@ -1,6 +1,6 @@
 use Rattle.std.proofs.Common.{ap, ◌∙◌, sym}
 use Rattle.std.specs.FinMap.{get, insert}
-use Rattle.weak_table.specs.Shows.{with_value}
+use Rattle.az_base.specs.WithValue.{with_value}
 use Rattle.weak_table.proofs.Showing.{removed-there, added-again}
 use Rattle.weak_table.proofs.weak.Weak.assign.Goals as goal
 

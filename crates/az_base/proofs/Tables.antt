@@ -1,28 +1,25 @@
--- Entries seen as a finite map, where the test of keys is that of an order that tells all keys apart
-use Rattle.std.proofs.Common.{◌≡◌, ℕ, suc, ◌+◌, length, arith, Bool, true, false, cond, List, [], ◌∷◌, ◌||◌, Some, None, is_some, refl, sym, ap, ◌∙◌}
+-- A table as a finite map, where the test of keys is that of an order that tells all keys apart
+use Rattle.std.proofs.Common.{◌≡◌, ℕ, suc, ◌+◌, length, arith, Bool, false, cond, List, [], ◌∷◌, ◌||◌, Option, Some, None, is_some, refl, sym, ap, ◌∙◌}
 use Rattle.std.specs.declared.cmp.Ordering.{Ordering}
-use Rattle.std.specs.Ordering.{is_eq}
+use Rattle.std.specs.Ordering.{is_eq, eq_by_cmp}
 use Rattle.std.specs.Cmp.{IsTotalOrder, eq_by_cmp_equiv}
 use Rattle.std.specs.List.{list_any, IsDistinct}
 use Rattle.std.specs.Map.{lookup, keys_of}
-use Rattle.std.specs.FinMap.{IsAntisymmetric, find, from_entries, get, insert, remove, get-insert, get-remove, get-from_entries, same_map, len, len-empty, len-insert}
+use Rattle.std.proofs.lemmas.Map.Keys.{IsDistinct-tail}
+use Rattle.std.proofs.lemmas.Map.Made.{is_some-lookup}
+use Rattle.std.specs.FinMap.{FinMap, IsAntisymmetric, find, from_entries, get, insert, remove, get-insert, get-remove, get-from_entries, same_map, len, len-empty, len-insert}
+use Rattle.az_base.specs.WithValue.{with_value}
 
-pub lookup-keys : {K X : Type 0} (test : K → Bool) (es : List (K × X)) → list_any test (keys_of es) ≡ is_some (lookup test es)
-lookup-keys test [] = refl
-lookup-keys test (e ∷ es) = by (test e.0) (lookup-keys test es)
-  where
-    by : (b : Bool) → list_any test (keys_of es) ≡ is_some (lookup test es) → (b || list_any test (keys_of es)) ≡ is_some (cond b (Some e.1) (lookup test es))
-    by true h = refl
-    by false h = h
-
-none_alike : {K : Type 0} (eq : K → K → Bool) (k : K) (ks : List K) → IsDistinct eq (k ∷ ks) → list_any (eq k) ks ≡ false
+-- a key of distinct ones is none of those after it
+pub none_alike : {K : Type 0} (eq : K → K → Bool) (k : K) (ks : List K) → IsDistinct eq (k ∷ ks) → list_any (eq k) ks ≡ false
 unfolding IsDistinct
 none_alike eq k [] h = refl
 none_alike eq k (x ∷ ks) h = ap (λ t. t || list_any (eq k) ks) h.0.0 ∙ none_alike eq k ks (h.0.1, h.1.1)
 
-rest_distinct : {K : Type 0} (eq : K → K → Bool) (k : K) (ks : List K) → IsDistinct eq (k ∷ ks) → IsDistinct eq ks
-unfolding IsDistinct
-rest_distinct eq k ks h = h.1
+-- what a map has in which one key got a value or lost it
+pub get-with_value : {K X : Type 0} {R : K → K → Ordering} (o : IsTotalOrder R) (m : FinMap R X) (k : K) (v : Option X) (q : K) → get (with_value m k v) q ≡ cond (eq_by_cmp R q k) v (get m q)
+get-with_value o m k None q = get-remove o m k q
+get-with_value o m k (Some x) q = get-insert o m k x q
 
 module _ {K X : Type 0} {R : K → K → Ordering} (o : IsTotalOrder R) (eq : K → K → Bool) (tests : (a b : K) → eq a b ≡ is_eq (R a b)) where
   -- the map that the entries make has what a look-up finds
@@ -37,9 +34,9 @@ module _ {K X : Type 0} {R : K → K → Ordering} (o : IsTotalOrder R) (eq : K 
   pub shown-len : (es : List (K × X)) → IsDistinct eq (keys_of es) → len (from_entries {R = R} es) ≡ length es
   shown-len [] h = len-empty R X
   shown-len (e ∷ es) h =
-      let rest : len (from_entries {R = R} es) ≡ length es = shown-len es (rest_distinct eq e.0 (keys_of es) h) in
+      let rest : len (from_entries {R = R} es) ≡ length es = shown-len es (IsDistinct-tail eq e.0 (keys_of es) h) in
       len-insert o (from_entries es) e.0 e.1
-      ∙ ap (λ t. cond t (len (from_entries {R = R} es)) (len (from_entries {R = R} es) + 1)) (ap is_some (shown-get es e.0) ∙ sym (lookup-keys (eq e.0) es) ∙ none_alike eq e.0 (keys_of es) h)
+      ∙ ap (λ t. cond t (len (from_entries {R = R} es)) (len (from_entries {R = R} es) + 1)) (ap is_some (shown-get es e.0) ∙ is_some-lookup (eq e.0) es ∙ none_alike eq e.0 (keys_of es) h)
       ∙ plus (len (from_entries {R = R} es)) (length es) rest
     where
       plus : (a b : ℕ) → a ≡ b → a + 1 ≡ suc b
