@@ -1,5 +1,5 @@
 -- What the sources and sinks in memory are seen as.
-use Rattle.std.specs.Prelude.{Bool, false, ℕ, ◌+◌, ◌||◌, [], min, max, nat_lt, List, length}
+use Rattle.std.specs.Prelude.{Bool, true, false, ℕ, ◌+◌, ◌||◌, ◌++◌, [], min, max, nat_lt, List, length, if◌then◌else◌}
 use Rattle.az_outside.specs.CallCounts.{CallCounts, no_call, next_fails}
 
 -- the bytes that a source has left, and how many a read gives at most
@@ -53,3 +53,7 @@ taken_length store piece = min store.piece (length piece)
 -- whether the next write fails: it would go past the room, or its number is one of those that fail
 abbrev pub write_fails : FaultyStore → List ℕ → Bool
 write_fails store piece = nat_lt store.room (length store.bytes + taken_length store piece) || next_fails store.calls
+
+-- a sink that never fails, after a write: within the room the bytes are held, and past it none ever is
+abbrev pub store_after : SureStore → List ℕ → SureStore
+store_after store piece = if store.over || nat_lt store.room (length store.bytes + length piece) then record store { over = true } else record store { bytes = store.bytes ++ piece }

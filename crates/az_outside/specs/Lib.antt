@@ -4,3 +4,5 @@ pub mod CallCounts
 pub mod InMemory
 pub mod Adapters
 pub mod Growing
+pub mod Patience
+pub mod Turns

@@ -15,6 +15,7 @@ mod std_sink;
 mod std_source;
 mod sure_sink;
 mod sure_source;
+mod tries;
 mod writing;
 
 pub use memory_sink::MemorySink;
@@ -27,6 +28,3 @@ pub use std_source::StdSource;
 pub use sure_sink::SureSink;
 pub use sure_source::SureSource;
 pub use writing::{Fault, write_all};
-
-#[cfg(test)]
-mod tests;

@@ -70,12 +70,14 @@ impl Sink for MemorySink {
 
     ghost faults = { λ s. s.calls.faults };
 
+    ghost wrote = { λ old new piece result. is_err result ≡ write_fails old piece };
+
     fn write(&mut self, piece: &[u8]) -> Result<usize, Failed>
         ensures bound { WritesAtMost result piece.now }
         ensures some { TakesSome piece.now result }
         ensures bytes { WriteGrows (λ bytes. self.new.bytes ≡ self.old.bytes ++ bytes) result piece.now }
         ensures cause { HasCause self.old.calls.faults self.new.calls.faults result }
-        ensures fails { is_err result ≡ write_fails self.old piece.now }
+        ensures wrote { is_err result ≡ write_fails self.old piece.now }
         ensures calls { self.new.calls ≡ after_call self.old.calls (is_err result) }
         ensures count { IfOk result (λ n. n ≡ taken_length self.old piece.now) }
         ensures same { (self.new.piece ≡ self.old.piece) × (self.new.room ≡ self.old.room) }

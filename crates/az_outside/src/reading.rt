@@ -38,7 +38,8 @@ const CHUNK: usize = 4096;
 /// 4,096 bytes, or of as many as are missing to `limit` + 1. Bytes that were read before a refusal are gone.
 ///
 /// Fault only where the source's count of faults rose in this call; TooLong exactly where more than `limit` bytes came
-/// before the end, and then it has stopped at the first byte past the limit.
+/// before the end, and then it has stopped at the first byte past the limit. NoMemory only where no more than `limit`
+/// bytes came.
 pub fn read_all<S: Source>(alloc: Global, source: &mut S, limit: usize) -> Result<Vec<u8>, ReadAll>
     // All bytes, where the source tells them, were given and are gone.
     ensures bytes { IfOk result (λ v. Consumes (S.left source.old) (S.left source.new) v.items) }
@@ -51,6 +52,9 @@ pub fn read_all<S: Source>(alloc: Global, source: &mut S, limit: usize) -> Resul
     ensures too_long { result ≡ Err ReadAll.TooLong →
         IfSome (S.left source.old) (λ bytes. limit < length bytes) }
     ensures taken { TakesAtMost (limit + 1) (S.left source.old) (S.left source.new) }
+
+    ensures memory { result ≡ Err ReadAll.NoMemory →
+        TakesAtMost limit (S.left source.old) (S.left source.new) }
 
     ensures later { S.faults source.old ≤ S.faults source.new }
     ensures fault { result ≡ Err ReadAll.Fault →

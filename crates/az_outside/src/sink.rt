@@ -1,6 +1,7 @@
 //! Where bytes go.
-ghost use Rattle.std.specs.Prelude.{ℕ, List, [], ◌++◌};
+ghost use Rattle.std.specs.Prelude.{ℕ, List, [], ◌++◌, Result};
 ghost use Rattle.std.specs.Io.{WritesAtMost};
+ghost use Rattle.az_outside.specs.declared.source.Failed.{Failed};
 ghost use Rattle.az_outside.specs.Causes.{HasCause};
 ghost use Rattle.az_outside.specs.Bytes.{TakesSome, WriteGrows};
 
@@ -14,13 +15,17 @@ pub trait Sink {
     // How many writes failed, at most 2^64 - 1.
     ghost faults: { Self → ℕ };
 
+    // One write of this piece led from the first state to the second, and gave this.
+    ghost wrote: { Self → Self → List ℕ → Result ℕ Failed → Type 0 };
+
     /// Appends a front of the piece, and says how long it is: at least one byte of a piece that isn't empty. Failed
     /// only where the count of faults rose, and then nothing was appended.
     fn write(&mut self, piece: &[u8]) -> Result<usize, Failed>
         ensures bound { WritesAtMost result piece.now }
         ensures some { TakesSome piece.now result }
         ensures bytes { WriteGrows (grew self.old self.new) result piece.now }
-        ensures cause { HasCause (faults self.old) (faults self.new) result };
+        ensures cause { HasCause (faults self.old) (faults self.new) result }
+        ensures wrote { wrote self.old self.new piece.now result };
 
     ghost grew_nothing: { (a : Self) → grew a a [] };
 

@@ -5,17 +5,34 @@ ghost use Rattle.std.specs.Io.KnownBytes.{ReadConsumes};
 ghost use Rattle.az_outside.specs.Causes.{HasCause, count_after};
 
 use crate::source::{Failed, Source};
-use std::io::{ErrorKind, Read};
+use crate::tries::{ReadOnce, Stopped, read_patiently, why_stopped};
+use std::io::Read;
 use std::marker::Model;
 
-/// The tries of one call: the first, and at most 1,000 more in a row while it is interrupted.
-pub const TRIES: u32 = 1001;
+/// A reader of std, one read at a time.
+#[derive(Drop)]
+struct OneRead<R: Read> {
+    reader: R,
+}
+
+impl<R: Read> ReadOnce for OneRead<R> {
+    ghost left = { λ r. R.remaining r.reader };
+
+    ghost tried = { λ old new result. Unit {0} };
+
+    fn read_once(&mut self, buf: &mut [u8]) -> Result<usize, Stopped> {
+        match self.reader.read(buf) {
+            Ok(count) => Ok(count),
+            Err(error) => Err(why_stopped(error.kind())),
+        }
+    }
+}
 
 /// Reads from a reader of std, and counts the reads that fail. An interrupted read is tried again at most 1,000 times
 /// in a row, and is then a fault. It tells the bytes that the reader tells.
 #[derive(Drop)]
 pub struct StdSource<R: Read> {
-    reader: R,
+    reads: OneRead<R>,
     faults: u64,
 }
 
@@ -24,7 +41,7 @@ impl<R: Read> Model for StdSource<R> {
 
     ghost Value = { Reading };
 
-    ghost view = { λ s. record { left = R.remaining s.reader; faults = s.faults } };
+    ghost view = { λ s. record { left = R.remaining s.reads.reader; faults = s.faults } };
 }
 
 impl<R: Read> StdSource<R> {
@@ -33,26 +50,11 @@ impl<R: Read> StdSource<R> {
         ensures left { result.left ≡ R.remaining reader }
         ensures faults { result.faults ≡ 0 }
     {
-        StdSource { reader, faults: 0 }
-    }
-}
-
-/// One read, tried again while it is interrupted.
-fn read_patiently<R: Read>(reader: &mut R, buf: &mut [u8]) -> Result<usize, Failed>
-    ensures bound { ReadsAtMost result buf.new }
-    ensures bytes { ReadConsumes (R.remaining reader.old) (R.remaining reader.new) result buf.new }
-{
-    'tries: for _ in 0..TRIES {
-        match reader.read(buf) {
-            Ok(count) => return Ok(count),
-            Err(error) => {
-                if error.kind() != ErrorKind::Interrupted {
-                    break;
-                }
-            }
+        StdSource {
+            reads: OneRead { reader },
+            faults: 0,
         }
     }
-    Err(Failed)
 }
 
 impl<R: Read> Source for StdSource<R> {
@@ -66,7 +68,7 @@ impl<R: Read> Source for StdSource<R> {
         ensures cause { HasCause self.old.faults self.new.faults result }
         ensures counted { self.new.faults ≡ count_after self.old.faults (is_err result) }
     {
-        let answer = read_patiently(&mut self.reader, buf);
+        let answer = read_patiently(&mut self.reads, buf);
         if answer.is_err() {
             self.faults = self.faults.saturating_add(1);
         }

@@ -4,7 +4,7 @@ ghost use Rattle.std.specs.Io.{WritesAtMost};
 ghost use Rattle.az_outside.specs.Growing.{GrewWithinRoom, grew_by_nothing, grew_by_both};
 ghost use Rattle.az_outside.specs.Bytes.{TakesSome, WriteGrows};
 ghost use Rattle.az_outside.specs.Causes.{HasCause};
-ghost use Rattle.az_outside.specs.InMemory.{empty_sure_store};
+ghost use Rattle.az_outside.specs.InMemory.{empty_sure_store, store_after};
 
 use crate::sink::Sink;
 use crate::source::Failed;
@@ -60,11 +60,14 @@ impl Sink for SureSink {
 
     ghost faults = { λ _. 0 };
 
+    ghost wrote = { λ old new piece result. new ≡ store_after old piece };
+
     fn write(&mut self, piece: &[u8]) -> Result<usize, Failed>
         ensures bound { WritesAtMost result piece.now }
         ensures some { TakesSome piece.now result }
         ensures bytes { WriteGrows (GrewWithinRoom self.old self.new) result piece.now }
         ensures cause { HasCause 0 0 result }
+        ensures wrote { self.new ≡ store_after self.old piece.now }
         ensures sure { IsOk result }
         ensures whole { IfOk result (λ n. n ≡ length piece.now) }
     {

@@ -2,6 +2,7 @@
 ghost use Rattle.std.specs.Prelude.{OnOk, OnErr};
 ghost use Rattle.az_outside.specs.Causes.{HasCause};
 ghost use Rattle.az_outside.specs.Bytes.{GrewByFront};
+ghost use Rattle.az_outside.specs.Turns.{GivesRest};
 
 use crate::sink::Sink;
 use thiserror::Error;
@@ -16,6 +17,7 @@ pub struct Fault;
 pub fn write_all<O: Sink>(sink: &mut O, bytes: &[u8]) -> Result<(), Fault>
     ensures all { OnOk result (O.grew sink.old sink.new bytes.now) }
     ensures front { OnErr result (GrewByFront (O.grew sink.old sink.new) bytes.now) }
+    ensures turns { GivesRest O.wrote sink.old sink.new bytes.now result }
     ensures cause { HasCause (O.faults sink.old) (O.faults sink.new) result }
 {
     let mut done = 0;

@@ -22,3 +22,8 @@ pub returns-in_err-extend_from_slice-in-Ok-clause-taken : goal.returns-in_err-ex
 returns-in_err-extend_from_slice-in-Ok-clause-taken g c =
     let got = c.in-Ok.ensures in
     takes_few _ _ _ _ _ _ c.turns.invariant.1 got.bytes.0 (omega (arith, got.bound.1))
+
+pub returns-in_err-extend_from_slice-in-Ok-clause-memory : goal.returns-in_err-extend_from_slice-in-Ok-clause-memory
+returns-in_err-extend_from_slice-in-Ok-clause-memory g c =
+    let got = c.in-Ok.ensures in
+    λ _. takes_few _ _ _ _ _ _ c.turns.invariant.1 got.bytes.0 (omega (arith, got.bound.1))
