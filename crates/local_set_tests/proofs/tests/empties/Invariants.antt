@@ -1,0 +1,5 @@
+use Rattle.std.proofs.Common.{◌≡◌, false}
+use Rattle.local_set_tests.proofs.tests.empties.Given as goal
+
+abbrev pub invariant-loop : goal.invariant-loop
+invariant-loop l = l.local.ended ≡ false
