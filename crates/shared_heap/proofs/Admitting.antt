@@ -20,7 +20,7 @@ use Rattle.zone_model.proofs.Totals.{total_added}
 use Rattle.shared_heap.specs.Shared.{Shared, held}
 use Rattle.shared_heap.specs.Steps.{IsUnescaped}
 use Rattle.shared_heap.specs.Holding.{times_in, holds_of, HoldsAgree, HoldsAdmitted, HoldsAsBefore}
-use Rattle.shared_heap.proofs.Tables.{turned}
+use Rattle.az_base.proofs.Ids.{same_turned}
 
 -- ids that the test calls the same are the same
 pub same_ids : (a b : BlockId) → same_id a b ≡ true → a ≡ b
@@ -47,7 +47,7 @@ module _ (m : FinMap id_cmp Block) (id : BlockId) (f : BlockId → Block → ℕ
     where
       go : (q : BlockId) (t : Bool) → same_id q id ≡ t → get m q ≡ get (insert rest id b) q
       go q true e = ap (get m) (same_ids q id e) ∙ is ∙ sym (get-insert ids_total rest id b q ∙ ap (λ t. cond t (Some b) (get rest q)) e)
-      go q false e = sym (get-insert ids_total rest id b q ∙ ap (λ t. cond t (Some b) (get rest q)) e ∙ rest_get q ∙ ap (λ t. cond t None (get m q)) (turned id q ∙ e))
+      go q false e = sym (get-insert ids_total rest id b q ∙ ap (λ t. cond t (Some b) (get rest q)) e ∙ rest_get q ∙ ap (λ t. cond t None (get m q)) (same_turned id q ∙ e))
 
   pub sum_still : get m id ≡ None → total f m ≡ total f rest
   sum_still none = ap (total f) (same_map ids_total exact_ids _ _ (λ q. go q (same_id id q) refl))

@@ -1,9 +1,7 @@
 -- The steps of the calls on associations
 use Rattle.std.proofs.Common.{◌≡◌, ℕ, ◌≤◌, false, [], ◌∷◌, Option, Some, None, IsSome, IfSome, is_none, refl, sym, ap, subst, ◌∙◌, inl, inr}
 use Rattle.std.specs.Option.{option_map_or}
-use Rattle.std.specs.declared.cmp.Ordering.{Ordering}
-use Rattle.std.specs.FinMap.{FinMap, get}
-use Rattle.assoc_refs.specs.Table as table
+use Rattle.std.specs.FinMap.{get}
 use Rattle.az_base.specs.declared.block_id.BlockId.{BlockId}
 use Rattle.az_base.specs.declared.numbers.Key.{Key}
 use Rattle.az_base.specs.declared.misuse.Misuse.TheVariants as misuse
@@ -12,7 +10,8 @@ use Rattle.zone_model.specs.declared.entry.Reply.TheVariants as reply
 use Rattle.zone_model.specs.Effect.{assoc_of}
 use Rattle.zone_model.specs.Escape.{Need, EscOf}
 use Rattle.zone_model.specs.Misuses.{first_of, misuse_of}
-use Rattle.zone_model.specs.State.{State, with_value, with_assoc, with_register}
+use Rattle.az_base.specs.WithValue.{with_value}
+use Rattle.zone_model.specs.State.{State, with_assoc, with_register}
 use Rattle.zone_model.specs.Step.{seen_now}
 use Rattle.zone_model.proofs.Steps.{step_plain}
 use Rattle.shared_heap.specs.Assocs.{associated}
@@ -22,11 +21,6 @@ use Rattle.shared_heap.specs.Steps.{Runs, Stepped}
 use Rattle.shared_heap.proofs.Standing.{register_stands, seen_stands}
 use Rattle.shared_heap.proofs.Stepping.{misused, none_escape}
 use Rattle.shared_heap.proofs.Sums.{not_full}
-
--- the table's word for a value at a key is the definitions'
-pub same_with_value : {K X : Type 0} {R : K → K → Ordering} (m : FinMap R X) (k : K) (v : Option X) → table.with_value m k v ≡ with_value m k v
-same_with_value m k None = refl
-same_with_value m k (Some x) = refl
 
 -- the heap after an association was set
 pub assoc_stands : (h : Shared) (z : State) (object : BlockId) (key : ℕ) (v : Option BlockId) → Stands h z → Stands (associated h (Some object) key v) (with_assoc z object key v)

@@ -19,7 +19,7 @@ use Rattle.shared_heap.specs.Shared.{Shared, held, holding, holding_more, admitt
 use Rattle.shared_heap.specs.Steps.{names}
 use Rattle.shared_heap.proofs.Counts.{tied}
 use Rattle.shared_heap.proofs.Standing.{edit_get}
-use Rattle.shared_heap.proofs.Tables.{turned}
+use Rattle.az_base.proofs.Ids.{same_turned}
 
 -- after one thread's number was set
 pub times_with : (m : Holds) (t n u : ℕ) → times (with_times m t n) u ≡ cond (t == u) n (times m u)
@@ -46,7 +46,7 @@ pub held_holding : (h : Shared) (t : ℕ) (id : BlockId) (n : ℕ) → IsSome (g
 held_holding h t id n there u q =
     ap (λ o. option_map_or (λ (m : Holds). times m u) o 0) (edit_get h.holds id (λ m. with_times m t n) q)
     ∙ go (id_cmp q id) refl (get h.holds id) refl there
-    ∙ ap (λ b. cond ((t == u) && b) n (held h u q)) (turned q id)
+    ∙ ap (λ b. cond ((t == u) && b) n (held h u q)) (same_turned q id)
   where
     go : (r : Ordering) → id_cmp q id ≡ r → (o : Option Holds) → get h.holds id ≡ o → IsSome o
         → option_map_or (λ (m : Holds). times m u) (cond (is_eq r) (option_map (λ m. with_times m t n) (get h.holds q)) (get h.holds q)) 0 ≡ cond ((t == u) && is_eq r) n (held h u q)
@@ -68,7 +68,7 @@ held_more h t None u q there keys = nothing (t == u)
 held_more h t (Some id) u q there keys =
     ap (λ o. option_map_or (λ (m : Holds). times m u) o 0) (edit_get h.holds id (λ m. with_times m t (times m t + 1)) q)
     ∙ go (id_cmp q id) refl (get h.holds q) refl
-    ∙ ap (λ b. held h u q + cond ((t == u) && b) 1 0) (turned q id)
+    ∙ ap (λ b. held h u q + cond ((t == u) && b) 1 0) (same_turned q id)
   where
     raised : (m : Holds) (b : Bool) → (t == u) ≡ b → cond b (times m t + 1) (times m u) ≡ times m u + cond (b && true) 1 0
     raised m true e = let same : t ≡ u = grind (arith, nat_tests) in ap (λ k. times m k + 1) same
@@ -110,7 +110,7 @@ no_times u = ap (λ o. unwrap_or o 0) (get-empty nat_cmp u)
 -- a block that comes in is held by nobody
 pub held_admitted : (h : Shared) (id : BlockId) (layout : Layout) (words : List Word) (u : ℕ) (q : BlockId) → held (admitted h id layout words) u q ≡ cond (same_id id q) 0 (held h u q)
 held_admitted h id layout words u q =
-    ap (λ o. option_map_or (λ (m : Holds). times m u) o 0) (get-insert ids_total h.holds id empty q) ∙ at (same_id q id) ∙ ap (λ b. cond b 0 (held h u q)) (turned q id)
+    ap (λ o. option_map_or (λ (m : Holds). times m u) o 0) (get-insert ids_total h.holds id empty q) ∙ at (same_id q id) ∙ ap (λ b. cond b 0 (held h u q)) (same_turned q id)
   where
     at : (b : Bool) → option_map_or (λ (m : Holds). times m u) (cond b (Some empty) (get h.holds q)) 0 ≡ cond b 0 (held h u q)
     at true = no_times u
@@ -122,7 +122,7 @@ fresh_admitted h id layout words = get-insert ids_total h.holds id empty id ∙ 
 -- and a block at its birth by its thread
 pub held_born : (h : Shared) (t : ℕ) (id : BlockId) (layout : Layout) (actions : List Action) (u : ℕ) (q : BlockId) → held (with_birth h t id layout actions) u q ≡ cond (same_id id q) (cond (t == u) 1 0) (held h u q)
 held_born h t id layout actions u q =
-    ap (λ o. option_map_or (λ (m : Holds). times m u) o 0) (get-insert ids_total h.holds id (with_times empty t 1) q) ∙ at (same_id q id) ∙ ap (λ b. cond b (cond (t == u) 1 0) (held h u q)) (turned q id)
+    ap (λ o. option_map_or (λ (m : Holds). times m u) o 0) (get-insert ids_total h.holds id (with_times empty t 1) q) ∙ at (same_id q id) ∙ ap (λ b. cond b (cond (t == u) 1 0) (held h u q)) (same_turned q id)
   where
     at : (b : Bool) → option_map_or (λ (m : Holds). times m u) (cond b (Some (with_times empty t 1)) (get h.holds q)) 0 ≡ cond b (cond (t == u) 1 0) (held h u q)
     at true = times_with empty t 1 u ∙ ap (cond (t == u) 1) (no_times u)

@@ -1,36 +1,15 @@
 -- The entries of a finite map to which a function gives a value
-use Rattle.std.proofs.Common.{◌≡◌, ℕ, ◌+◌, Bool, true, false, cond, ◌&&◌, T, List, [], ◌∷◌, Option, Some, None, refl, sym, ap, subst, ◌∙◌, arith}
+use Rattle.std.proofs.Common.{◌≡◌, ℕ, ◌+◌, false, cond, T, List, [], ◌∷◌, Option, Some, None, refl, sym, ap, subst, ◌∙◌, arith}
 use Rattle.std.specs.Option.{option_and_then}
 use Rattle.std.specs.declared.cmp.Ordering.{Ordering}
 use Rattle.std.specs.declared.cmp.Ordering.TheVariants.{Less, Equal, Greater}
-use Rattle.std.specs.Ordering.{is_lt, is_eq}
+use Rattle.std.specs.Ordering.{is_eq}
 use Rattle.std.specs.Cmp.{IsTotalOrder}
 use Rattle.std.specs.FinMap.{FinMap, IsAntisymmetric, entries, entries_sorted, from_sorted, entries-from_sorted, get, get-entries, get-from_sorted, same_map}
 use Rattle.std.specs.FinMap.Entries.{below_all, find, is_sorted}
+use Rattle.az_base.proofs.Sorted.{first, second, both, find_below}
 use Rattle.zone_model.specs.Maps.{total, list_total}
 use Rattle.zone_model.proofs.MapLaws.{at_value}
-
-first : (a b : Bool) → T (a && b) → T a
-first true b p = tt
-first false b p = p
-
-second : (a b : Bool) → T (a && b) → T b
-second true b p = p
-second false b p = absurd p
-
-both : (a b : Bool) → T a → T b → T (a && b)
-both true b p q = q
-both false b p q = p
-
-less : (o : Ordering) → T (is_lt o) → o ≡ Less
-less Less p = refl
-less Equal p = absurd p
-less Greater p = absurd p
-
-module _ {K X : Type 0} {R : K → K → Ordering} (o : IsTotalOrder R) where
-  find_below : (q : K) (es : List (K × X)) → T (below_all R q es) → find R q es ≡ None
-  find_below q [] h = refl
-  find_below q (e ∷ es) h = ap (λ r. cond (is_eq r) (Some e.1) (find R q es)) (less _ (first _ _ h)) ∙ find_below q es (second _ _ h)
 
 -- the entry stays with this value, or goes
 abbrev add_some : {K Y : Type 0} → K → Option Y → List (K × Y) → List (K × Y)
@@ -72,7 +51,7 @@ module _ {K X Y : Type 0} (R : K → K → Ordering) (f : K → X → Option Y) 
 
       here : (e : K × X) (es : List (K × X)) (q : K) (o : IsTotalOrder R) (same : IsAntisymmetric R) → R q e.0 ≡ Equal → T (is_sorted R (e ∷ es)) → (v : Option Y) → f e.0 e.1 ≡ v → find R q (add_some e.0 v (pick_list es)) ≡ f q e.1
       here e es q o same t h None is =
-          find_below o q (pick_list es) (below-pick q es (subst (λ k. T (below_all R k es)) (sym (same q e.0 t)) (first _ _ h))) ∙ sym is ∙ ap (λ k. f k e.1) (sym (same q e.0 t))
+          find_below R q (pick_list es) (below-pick q es (subst (λ k. T (below_all R k es)) (sym (same q e.0 t)) (first _ _ h))) ∙ sym is ∙ ap (λ k. f k e.1) (sym (same q e.0 t))
       here e es q o same t h (Some y) is = ap (λ b. cond b (Some y) (find R q (pick_list es))) (ap is_eq t) ∙ sym is ∙ ap (λ k. f k e.1) (sym (same q e.0 t))
 
   -- the entries to which f gives a value, with this value

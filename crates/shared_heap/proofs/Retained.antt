@@ -16,7 +16,8 @@ use Rattle.zone_model.specs.declared.call.Call.{Call}
 use Rattle.zone_model.specs.declared.call.Call.TheVariants as call
 use Rattle.zone_model.specs.declared.entry.Reply.{Reply}
 use Rattle.zone_model.specs.declared.entry.Reply.TheVariants as reply
-use Rattle.zone_model.specs.State.{State, with_value, positive_count, with_register}
+use Rattle.az_base.specs.WithValue.{with_value}
+use Rattle.zone_model.specs.State.{State, positive_count, with_register}
 use Rattle.zone_model.specs.State as state
 use Rattle.zone_model.specs.Escape.{Need, EscOf}
 use Rattle.zone_model.specs.Effect.{count_in, with_count_in}

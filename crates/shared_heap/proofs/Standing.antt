@@ -24,7 +24,7 @@ use Rattle.shared_heap.specs.Stored.{HeapBlock}
 use Rattle.shared_heap.specs.Shared.{Shared, new_heap, rooted, written, newly, with_birth, admitted, holding_more}
 use Rattle.shared_heap.specs.Stands.{Stands, kept_of, escaped_view}
 use Rattle.shared_heap.specs.Steps.{IsUnescaped}
-use Rattle.shared_heap.proofs.Tables.{turned}
+use Rattle.az_base.proofs.Ids.{same_turned}
 
 nulls : (n g : ℕ) → get_or (replicate n (let o : Option BlockId = None in o)) g None ≡ None
 nulls zero g = refl
@@ -185,7 +185,7 @@ admit_stands h z id layout words is s = record {
 
     other : (q : BlockId) → same_id q id ≡ false → (o : Option Block) → escaped_view z.reclaims o ≡ escaped_view z.reclaims (option_map (escape q) o)
     other q e None = refl
-    other q e (Some b) = sym (ap (λ t. escaped_view z.reclaims (Some (cond t (record b { since = Some z.reclaims }) b))) (turned id q ∙ e))
+    other q e (Some b) = sym (ap (λ t. escaped_view z.reclaims (Some (cond t (record b { since = Some z.reclaims }) b))) (same_turned id q ∙ e))
 
     joined : (q : BlockId) (r : Ordering) → id_cmp q id ≡ r → cond (is_eq r) (Some (newly layout words [])) (escaped_view z.reclaims (get z.blocks q)) ≡ escaped_view z.reclaims (option_map (escape q) (get z.blocks q))
     joined q Less e = other q (ap is_eq e) (get z.blocks q)
@@ -193,4 +193,4 @@ admit_stands h z id layout words is s = record {
     joined q Equal e =
         ap (λ n. Some (record (newly layout words []) { age = n })) (sym (none_since z.reclaims))
         ∙ sym (ap (λ o. escaped_view z.reclaims (option_map (escape q) o)) (ap (get z.blocks) (exact_ids q id e) ∙ is)
-        ∙ ap (λ t. escaped_view z.reclaims (Some (cond t (record mine { since = Some z.reclaims }) mine))) (turned id q ∙ ap is_eq e))
+        ∙ ap (λ t. escaped_view z.reclaims (Some (cond t (record mine { since = Some z.reclaims }) mine))) (same_turned id q ∙ ap is_eq e))

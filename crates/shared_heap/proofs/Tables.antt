@@ -1,24 +1,18 @@
 -- The block table seen as finite maps
-use Rattle.std.proofs.Common.{◌≡◌, ℕ, ◌==◌, ◌&&◌, Bool, true, false, cond, List, [], ◌∷◌, map, Option, Some, None, is_some, refl, sym, ap, ◌∙◌, arith}
-use Rattle.std.proofs.lemmas.Bool.Decides.{nat_tests}
-use Rattle.std.proofs.lemmas.Grind.{common_steps}
+use Rattle.std.proofs.Common.{◌≡◌, Bool, true, false, cond, List, [], ◌∷◌, map, Option, Some, None, is_some, refl, sym, ap, ◌∙◌}
 use Rattle.std.specs.Option.{option_map, option_map_or}
 use Rattle.std.specs.Map.{lookup}
 use Rattle.std.specs.declared.cmp.Ordering.{Ordering}
 use Rattle.std.specs.declared.cmp.Ordering.TheVariants.{Less, Equal, Greater}
-use Rattle.std.specs.Ordering.{is_eq, nat_cmp, ordering_then}
-use Rattle.std.specs.Cmp.{eq_by_cmp_equiv}
+use Rattle.std.specs.Ordering.{is_eq}
 use Rattle.std.specs.FinMap.{get, insert, get-from_entries, get-insert, same_map}
 use Rattle.std.specs.FinMap.Entries.{find}
 use Rattle.az_base.specs.declared.block_id.BlockId.{BlockId}
 use Rattle.az_base.specs.Ids.{id_cmp, same_id, ids_total, exact_ids}
+use Rattle.az_base.proofs.Ids.{same_turned}
 use Rattle.zone_model.specs.State.{with_edit}
 use Rattle.shared_heap.specs.Stored.{Held}
 use Rattle.shared_heap.specs.Table.{each_of}
-
--- ids are one where each test says so, in either order
-pub turned : (a b : BlockId) → same_id a b ≡ same_id b a
-turned a b = (eq_by_cmp_equiv ids_total).symm a b
 
 module _ {X : Type 0} (f : Held → X) (eq : BlockId → BlockId → Bool) (same : (a b : BlockId) → eq a b ≡ same_id a b) where
   put : (t s : Bool) (x : Held) (o : Option X) (l : Option Held) → t ≡ s → o ≡ option_map f l → cond s (Some (f x)) o ≡ option_map f (cond t (Some x) l)
@@ -43,7 +37,7 @@ module _ {X : Type 0} (f : Held → X) (eq : BlockId → BlockId → Bool) (same
   each_insert old new id x is = same_map ids_total exact_ids _ _ (λ q.
       each_get new q ∙ ap (option_map f) (is q)
       ∙ sym (get-insert ids_total (each_of f old) id (f x) q
-      ∙ put (eq id q) (same_id q id) x (get (each_of f old) q) (lookup (eq q) old) (same id q ∙ turned id q) (each_get old q)))
+      ∙ put (eq id q) (same_id q id) x (get (each_of f old) q) (lookup (eq q) old) (same id q ∙ same_turned id q) (each_get old q)))
 
   pub each_there : (es : List (BlockId × Held)) (id : BlockId) (x : Held) → Some x ≡ lookup (eq id) es → get (each_of f es) id ≡ Some (f x)
   each_there es id x h = each_get es id ∙ ap (option_map f) (sym h)
@@ -69,20 +63,6 @@ module _ {X : Type 0} (f : Held → X) (eq : BlockId → BlockId → Bool) (same
       stays : (q : BlockId) (b : Bool) → eq id q ≡ b → option_map f (cond b (Some now) (lookup (eq q) old)) ≡ option_map f (lookup (eq q) old)
       stays q true e = at_one q (id_cmp id q) refl (sym (same id q) ∙ e) refl
       stays q false e = refl
-
-then_eq : (r o : Ordering) → is_eq (ordering_then r o) ≡ (is_eq r && is_eq o)
-then_eq Less o = refl
-then_eq Equal o = refl
-then_eq Greater o = refl
-
-nat_eq_cmp : (x y : ℕ) → (x == y) ≡ is_eq (nat_cmp x y)
-nat_eq_cmp x y = grind (arith, nat_tests, common_steps)
-
--- the derived test of ids
-pub eq_ids : (a b : BlockId) → ((a.thread == b.thread) && (a.serial == b.serial)) ≡ same_id a b
-eq_ids a b =
-    ap (λ t. t && (a.serial == b.serial)) (nat_eq_cmp a.thread b.thread) ∙ ap (λ t. is_eq (nat_cmp a.thread b.thread) && t) (nat_eq_cmp a.serial b.serial)
-    ∙ sym (then_eq (nat_cmp a.thread b.thread) (nat_cmp a.serial b.serial))
 
 -- both maps have the same keys
 pub same_keys : {X Y : Type 0} (f : Held → X) (g : Held → Y) (es : List (BlockId × Held)) (q : BlockId) → is_some (get (each_of f es) q) ≡ is_some (get (each_of g es) q)

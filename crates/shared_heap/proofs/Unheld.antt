@@ -27,6 +27,7 @@ use Rattle.zone_model.specs.Step.{Step, Happens, seen_now}
 use Rattle.zone_model.proofs.Blocks.{is_out, is_inside, not_both, there_out, there_inside, own_inside, own_thread, got_escaped, found_escaped, escape_at}
 use Rattle.zone_model.proofs.PartChanges.{shown_in, part_get, new_others, new_part, born_in_part}
 use Rattle.zone_model.proofs.Sums.{total_split}
+use Rattle.az_base.proofs.Ids.{same_turned}
 use Rattle.shared_heap.specs.Shared.{Shared, held}
 use Rattle.shared_heap.specs.Steps.{IsUnescaped, names}
 use Rattle.shared_heap.specs.Holding.{refers_to, is_block, times_in, registers_with, holds_of, is_off, HoldsAgree, HoldsAgreeBut, HoldsAdmitted, HoldsBorn, HoldsItsOwn, HoldsOnceMore, pairs_in, replaced}
@@ -144,7 +145,7 @@ module _ (z after : State) (t to : ℕ) (layout : Layout) (actions : List Action
       held_now u q false e out = agree u q (sym (ap is_out (get-insert ids_total z.blocks id (new_block z t layout actions) q ∙ ap (λ b. cond b (Some (new_block z t layout actions)) (get z.blocks q)) (other q e))) ∙ out) ∙ sym (still (t == u) (holds_of (part_of z u) q))
         where
           other : (q : BlockId) → same_id id q ≡ false → same_id q id ≡ false
-          other q e = Rattle.shared_heap.proofs.Tables.turned q id ∙ e
+          other q e = same_turned q id ∙ e
 
           still : (b : Bool) (n : ℕ) → n + cond (b && false) 1 0 ≡ n
           still true n = omega arith

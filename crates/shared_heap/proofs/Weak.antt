@@ -15,7 +15,8 @@ use Rattle.zone_model.specs.declared.entry.Reply.TheVariants as reply
 use Rattle.zone_model.specs.Effect.{weak_loc, value_to_show}
 use Rattle.zone_model.specs.Escape.{Need, EscOf, block_named}
 use Rattle.zone_model.specs.Misuses.{null_block, no_word, wrong_class, first_of, misuse_of}
-use Rattle.zone_model.specs.State.{State, with_weak, with_value, with_register}
+use Rattle.az_base.specs.WithValue.{with_value}
+use Rattle.zone_model.specs.State.{State, with_weak, with_register}
 use Rattle.zone_model.specs.Step.{seen_now}
 use Rattle.zone_model.proofs.Steps.{step_plain}
 use Rattle.shared_heap.specs.Shared.{Shared, used_by}

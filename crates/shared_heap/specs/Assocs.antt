@@ -5,7 +5,7 @@ use Rattle.az_base.specs.declared.block_id.BlockId.{BlockId}
 use Rattle.az_base.specs.declared.misuse.Misuse.TheVariants as misuse
 use Rattle.zone_model.specs.declared.entry.Reply.{Reply}
 use Rattle.zone_model.specs.declared.entry.Reply.TheVariants as reply
-use Rattle.zone_model.specs.State.{with_value}
+use Rattle.az_base.specs.WithValue.{with_value}
 use Rattle.shared_heap.specs.Shared.{Shared}
 
 -- the value of the object under the key, or the misuse where there is no object

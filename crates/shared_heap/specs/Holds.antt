@@ -2,7 +2,8 @@
 use Rattle.std.specs.Prelude.{ℕ, unwrap_or}
 use Rattle.std.specs.Ordering.{nat_cmp}
 use Rattle.std.specs.FinMap.{FinMap, get}
-use Rattle.zone_model.specs.State.{with_value, positive_count}
+use Rattle.az_base.specs.WithValue.{with_value}
+use Rattle.zone_model.specs.State.{positive_count}
 
 -- the threads that hold a block, and how often each does
 abbrev pub Holds : Type 0

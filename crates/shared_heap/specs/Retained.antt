@@ -7,7 +7,8 @@ use Rattle.az_base.specs.declared.misuse.Misuse.{Misuse}
 use Rattle.az_base.specs.declared.misuse.Misuse.TheVariants as misuse
 use Rattle.zone_model.specs.declared.entry.Reply.{Reply}
 use Rattle.zone_model.specs.declared.entry.Reply.TheVariants as reply
-use Rattle.zone_model.specs.State.{with_value, positive_count}
+use Rattle.az_base.specs.WithValue.{with_value}
+use Rattle.zone_model.specs.State.{positive_count}
 use Rattle.shared_heap.specs.Shared.{Shared}
 
 -- the count of a block, 0 where it has none

@@ -8,7 +8,7 @@ use Rattle.az_base.specs.declared.weak_loc.WeakLoc.TheVariants as weak
 use Rattle.az_base.specs.declared.word.Class.TheVariants as class
 use Rattle.zone_model.specs.declared.entry.Reply.{Reply}
 use Rattle.zone_model.specs.declared.entry.Reply.TheVariants as reply
-use Rattle.zone_model.specs.State.{with_value}
+use Rattle.az_base.specs.WithValue.{with_value}
 use Rattle.shared_heap.specs.Shared.{Shared}
 use Rattle.shared_heap.specs.Words.{word_misuse}
 

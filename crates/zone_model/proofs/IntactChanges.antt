@@ -13,7 +13,7 @@ use Rattle.az_base.specs.Places.{pair_cmp, loc_cmp, pairs_total, locs_total, exa
 use Rattle.zone_model.specs.State.{State, Block, Cycle, with_register, with_root, with_count, with_assoc, with_weak, with_cycle, without_blocks, positive_count, count_of, is_escaped, is_own}
 use Rattle.zone_model.specs.Quanta.{used_quanta, quanta_where}
 use Rattle.zone_model.specs.Reach.{WordEdge}
-use Rattle.zone_model.proofs.WeakSteps.{get-with_value}
+use Rattle.az_base.proofs.Tables.{get-with_value}
 use Rattle.zone_model.specs.Sound.{Knows, MayRefer, is_started}
 use Rattle.zone_model.proofs.Intact.{Intact}
 use Rattle.zone_model.proofs.Blocks.{is_out, is_inside, left_get, and_first}

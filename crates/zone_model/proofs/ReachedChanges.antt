@@ -24,7 +24,7 @@ use Rattle.zone_model.specs.Collection.{with_end}
 use Rattle.zone_model.specs.Effect.{Effect, with_new, new_block, weak_loc}
 use Rattle.zone_model.specs.History.{is_cycle_step}
 use Rattle.zone_model.specs.Reached.{KeepsReached, AddsToAnchored}
-use Rattle.zone_model.proofs.WeakSteps.{get-with_value}
+use Rattle.az_base.proofs.Tables.{get-with_value}
 use Rattle.zone_model.proofs.Blocks.{edit_get, left_get, got_escaped, escape_at, found_escaped, still_inside, set_or_was}
 use Rattle.zone_model.proofs.IntactBirths.{no_first_edge}
 use Rattle.zone_model.proofs.Paths.{path_within}

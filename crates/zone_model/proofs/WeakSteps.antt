@@ -1,11 +1,10 @@
 -- What one entry does to a weak location
 use Rattle.std.proofs.Common.{◌≡◌, ℕ, Bool, true, false, cond, not, List, [], ◌∷◌, Option, Some, None, MatchOption, fold, refl, sym, ap, subst, ◌∙◌, ◌⊎◌, inl, inr, if◌then◌else◌}
 use Rattle.std.specs.Option.{option_map_or}
-use Rattle.std.specs.declared.cmp.Ordering.{Ordering}
 use Rattle.std.specs.declared.cmp.Ordering.TheVariants.{Less, Equal, Greater}
 use Rattle.std.specs.Ordering.{eq_by_cmp, is_eq}
-use Rattle.std.specs.Cmp.{IsTotalOrder, tied_itself}
-use Rattle.std.specs.FinMap.{FinMap, get, get-insert, get-remove, get-retain_keys, retain_keys}
+use Rattle.std.specs.Cmp.{tied_itself}
+use Rattle.std.specs.FinMap.{FinMap, get, get-retain_keys, retain_keys}
 use Rattle.az_base.specs.declared.action.Action.{Action}
 use Rattle.az_base.specs.declared.action.Action.TheVariants as action
 use Rattle.az_base.specs.declared.block_id.BlockId.{BlockId}
@@ -18,7 +17,8 @@ use Rattle.zone_model.specs.declared.call.Loc.{Loc}
 use Rattle.zone_model.specs.declared.entry.Reply.{Reply}
 use Rattle.zone_model.specs.declared.entry.Reply.TheVariants as reply
 use Rattle.zone_model.specs.declared.entry.Entry.{Entry}
-use Rattle.zone_model.specs.State.{State, with_value, with_weak, with_count, with_assoc, is_word_of}
+pub use Rattle.az_base.proofs.Tables.{get-with_value}
+use Rattle.zone_model.specs.State.{State, with_weak, with_count, with_assoc, is_word_of}
 use Rattle.zone_model.specs.Escape.{with_escaped}
 use Rattle.zone_model.specs.Misuses.{misuse_of}
 use Rattle.zone_model.specs.Collection.{shows_one, with_action, actions_of}
@@ -68,11 +68,6 @@ same_or_other l k = elim (loc_cmp l k) as (λ r. loc_cmp l k ≡ r → (k ≡ l)
 
 apart : (l k : WeakLoc) → ((k ≡ l) → ⊥) → eq_by_cmp loc_cmp l k ≡ false
 apart l k other = elim (loc_cmp l k) as (λ r. loc_cmp l k ≡ r → is_eq r ≡ false) [ Less ↦ λ e. refl | Equal ↦ λ e. absurd (other (sym (exact_locs l k e))) | Greater ↦ λ e. refl ] refl
-
--- the map after a change at one key
-pub get-with_value : {K X : Type 0} {R : K → K → Ordering} (o : IsTotalOrder R) (m : FinMap R X) (k : K) (v : Option X) (q : K) → get (with_value m k v) q ≡ cond (eq_by_cmp R q k) v (get m q)
-get-with_value o m k None q = get-remove o m k q
-get-with_value o m k (Some x) q = get-insert o m k x q
 
 -- what a location shows after another one was assigned, or none
 pub assigned_elsewhere : (z : State) (k : Option WeakLoc) (v : Option BlockId) (l : WeakLoc) → (k ≡ Some l → ⊥) → get (option_map_or (λ k. with_weak z k v) k z).weak l ≡ get z.weak l

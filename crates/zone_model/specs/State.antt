@@ -2,7 +2,7 @@
 use Rattle.std.specs.Prelude.{is_some, is_none, zero, suc, ℕ, ◌+◌, ◌&&◌, ◌==◌, Bool, true, false, not, List, [], ◌∷◌, Option, Some, None, if◌then◌else◌, slice_set, slice_get, unwrap_or, option_and_then}
 use Rattle.std.specs.Option.{option_map_or}
 use Rattle.std.specs.declared.cmp.Ordering.{Ordering}
-use Rattle.std.specs.FinMap.{FinMap, empty, get, insert, remove, retain_keys}
+use Rattle.std.specs.FinMap.{FinMap, empty, get, insert, retain_keys}
 use Rattle.az_base.specs.declared.action.Action.{Action}
 use Rattle.az_base.specs.declared.block_id.BlockId.{BlockId}
 use Rattle.az_base.specs.declared.action.Mode.{Mode}
@@ -12,6 +12,7 @@ use Rattle.az_base.specs.declared.weak_loc.WeakLoc.TheVariants as weak
 use Rattle.az_base.specs.declared.word.Word.{Word}
 use Rattle.az_base.specs.declared.word.Word.TheVariants as word
 use Rattle.block_layouts.specs.declared.layout.Layout.{Layout}
+pub use Rattle.az_base.specs.WithValue.{with_value}
 use Rattle.az_base.specs.Ids.{id_cmp, among}
 use Rattle.az_base.specs.Places.{pair_cmp, loc_cmp}
 
@@ -139,11 +140,6 @@ abbrev pub word_at : State → Option BlockId → ℕ → Option Word
 word_at z a at = option_and_then (λ b. slice_get b.words at) (option_and_then (λ id. get z.blocks id) a)
 
 module _ {K X : Type 0} {R : K → K → Ordering} where
-  -- the map with this value at the key, or with none there
-  abbrev pub with_value : FinMap R X → K → Option X → FinMap R X
-  with_value m k None = remove m k
-  with_value m k (Some x) = insert m k x
-
   -- the map where the value at the key, if there is one, is changed by f
   abbrev pub with_edit : FinMap R X → K → (X → X) → FinMap R X
   with_edit m k f = option_map_or (λ x. insert m k (f x)) (get m k) m

@@ -2,7 +2,8 @@ use Rattle.std.proofs.Common.{ap, ◌∙◌}
 use Rattle.std.specs.FinMap.{insert}
 use Rattle.shared_heap.specs.Stored.{Held}
 use Rattle.shared_heap.specs.Table.{Table}
-use Rattle.shared_heap.proofs.Tables.{each_insert, eq_ids}
+use Rattle.az_base.proofs.Ids.{eq_ids}
+use Rattle.shared_heap.proofs.Tables.{each_insert}
 use Rattle.shared_heap.proofs.blocks.Blocks.add.Goals as goal
 
 pub returns-in-Ok-clause-blocks : goal.returns-in-Ok-clause-blocks

@@ -2,7 +2,8 @@ use Rattle.std.proofs.Common.{ap, ◌∙◌, sym, option_and_then}
 use Rattle.std.specs.Option.{option_map}
 use Rattle.block_layouts.specs.Layouts.{class_at}
 use Rattle.shared_heap.specs.Stored.{Held, HeapBlock}
-use Rattle.shared_heap.proofs.Tables.{each_there, each_get, eq_ids}
+use Rattle.az_base.proofs.Ids.{eq_ids}
+use Rattle.shared_heap.proofs.Tables.{each_there, each_get}
 use Rattle.shared_heap.proofs.blocks.Blocks.class_at.Goals as goal
 
 pub returns-in-Some : goal.returns-in-Some

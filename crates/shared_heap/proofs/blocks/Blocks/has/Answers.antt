@@ -3,7 +3,8 @@ use Rattle.std.specs.Option.{option_map}
 use Rattle.std.specs.FinMap.{contains_key}
 use Rattle.shared_heap.specs.Stored.{Held}
 use Rattle.shared_heap.specs.Table.{Table}
-use Rattle.shared_heap.proofs.Tables.{each_get, eq_ids}
+use Rattle.az_base.proofs.Ids.{eq_ids}
+use Rattle.shared_heap.proofs.Tables.{each_get}
 use Rattle.shared_heap.proofs.blocks.Blocks.has.Goals as goal
 
 mapped_some : (o : Option Held) → is_some o ≡ is_some (option_map (λ s. s.kept) o)

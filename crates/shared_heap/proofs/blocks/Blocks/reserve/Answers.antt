@@ -1,7 +1,8 @@
 use Rattle.std.proofs.Common.{ap, ◌∙◌}
 use Rattle.shared_heap.specs.Stored.{Held}
 use Rattle.shared_heap.specs.Table.{Table}
-use Rattle.shared_heap.proofs.Tables.{each_same, eq_ids}
+use Rattle.az_base.proofs.Ids.{eq_ids}
+use Rattle.shared_heap.proofs.Tables.{each_same}
 use Rattle.shared_heap.proofs.blocks.Blocks.reserve.Goals as goal
 
 pub returns-clause-blocks : goal.returns-clause-blocks

@@ -7,7 +7,8 @@ use Rattle.shared_heap.specs.Holds.{Holds, with_times}
 use Rattle.shared_heap.specs.Stored.{Held}
 use Rattle.shared_heap.specs.Table.{Table, each_of}
 use Rattle.shared_heap.proofs.Results.{on_ok, on_err}
-use Rattle.shared_heap.proofs.Tables.{each_there, each_get, each_edit, each_kept, eq_ids, same_keys}
+use Rattle.az_base.proofs.Ids.{eq_ids}
+use Rattle.shared_heap.proofs.Tables.{each_there, each_get, each_edit, each_kept, same_keys}
 use Rattle.shared_heap.proofs.blocks.Blocks.set_times.Goals as goal
 
 pub returns-in_default-clause-keys : goal.returns-in_default-clause-keys

@@ -5,7 +5,8 @@ use Rattle.zone_model.specs.State.{with_edit}
 use Rattle.shared_heap.specs.Stored.{Held, HeapBlock}
 use Rattle.shared_heap.specs.Table.{Table, each_of}
 use Rattle.block_layouts.specs.Fitting.{FitsAt}
-use Rattle.shared_heap.proofs.Tables.{each_there, each_get, each_edit, each_kept, eq_ids}
+use Rattle.az_base.proofs.Ids.{eq_ids}
+use Rattle.shared_heap.proofs.Tables.{each_there, each_get, each_edit, each_kept}
 use Rattle.shared_heap.proofs.blocks.Blocks.set_word.Goals as goal
 
 pub unreachable-requires : goal.unreachable-requires

@@ -2,7 +2,8 @@ use Rattle.std.proofs.Common.{ap, ◌∙◌, sym}
 use Rattle.std.specs.Option.{option_map, option_map_or}
 use Rattle.shared_heap.specs.Holds.{Holds, times}
 use Rattle.shared_heap.specs.Stored.{Held}
-use Rattle.shared_heap.proofs.Tables.{each_there, each_get, eq_ids}
+use Rattle.az_base.proofs.Ids.{eq_ids}
+use Rattle.shared_heap.proofs.Tables.{each_there, each_get}
 use Rattle.shared_heap.proofs.blocks.Blocks.times.Goals as goal
 
 pub returns-in-Some : goal.returns-in-Some

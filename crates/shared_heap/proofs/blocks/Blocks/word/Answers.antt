@@ -1,7 +1,8 @@
 use Rattle.std.proofs.Common.{ap, ◌∙◌, sym, slice_get, option_and_then}
 use Rattle.std.specs.Option.{option_map}
 use Rattle.shared_heap.specs.Stored.{Held, HeapBlock}
-use Rattle.shared_heap.proofs.Tables.{each_there, each_get, eq_ids}
+use Rattle.az_base.proofs.Ids.{eq_ids}
+use Rattle.shared_heap.proofs.Tables.{each_there, each_get}
 use Rattle.shared_heap.proofs.blocks.Blocks.word.Goals as goal
 
 pub returns-in-Some-clause-word : goal.returns-in-Some-clause-word

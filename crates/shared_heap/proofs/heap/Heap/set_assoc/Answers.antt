@@ -1,7 +1,7 @@
 use Rattle.std.proofs.Common.{◌∙◌, ap, refl, arith}
 use Rattle.std.specs.FinMap.{get}
 use Rattle.shared_heap.specs.Shared.{Shared}
-use Rattle.shared_heap.proofs.Assocs.{same_with_value, set_null, set_step}
+use Rattle.shared_heap.proofs.Assocs.{set_null, set_step}
 use Rattle.shared_heap.proofs.heap.Heap.set_assoc.Goals as goal
 
 pub returns-in_default-clause-step : goal.returns-in_default-clause-step
@@ -14,4 +14,4 @@ returns-clause-step c = λ z reg from runs sound holds has_value.
     (rw (← c.self.view_is) (omega (arith, c.self.invariant.used, c.self.invariant.fits)))
     c.in-Some.is
     (c.in_ok-before.ensures.before ∙ ap (λ (h : Shared). get h.assocs (c.in-Some.object, c.args.key.0)) c.self.view_is)
-    (rw (← c.self.view_is, c.in_ok-before.ensures.pairs, c.in_ok-before.ensures.ready, same_with_value) refl)
+    (rw (← c.self.view_is, c.in_ok-before.ensures.pairs, c.in_ok-before.ensures.ready) refl)
