@@ -1,5 +1,5 @@
 -- What is planned is what escapes, and the zone stands for the state afterwards
-use Rattle.std.proofs.Common.{◌≡◌, ℕ, ◌+◌, ◌^◌, ◌≤◌, Bool, true, false, cond, not, nat_le, nat_lt, List, [], ◌∷◌, Option, Some, None, IsSome, IsTrue, is_some, is_none, slice_get, refl, sym, ap, subst, ◌∙◌, arith, ◌⊎◌, inl, inr}
+use Rattle.std.proofs.Common.{◌≡◌, ℕ, ◌+◌, ◌^◌, ◌≤◌, ◌<◌, Bool, true, false, cond, not, nat_le, nat_lt, List, [], ◌∷◌, Option, Some, None, IsSome, IsTrue, is_some, is_none, slice_get, refl, sym, ap, subst, ◌∙◌, arith, ◌⊎◌, inl, inr}
 use Rattle.std.proofs.lemmas.Bool.Decides.{nat_tests}
 use Rattle.std.specs.Option.{option_map, option_map_or, option_and_then}
 use Rattle.std.specs.BTreeMap as tree
@@ -19,7 +19,9 @@ use Rattle.play_core.specs.declared.zone.LocalBlock.{LocalBlock}
 use Rattle.play_core.specs.declared.zone.SoloZone.{SoloZone}
 use Rattle.play_core.specs.Soundness.{IsSound, IsThere}
 use Rattle.play_core.specs.StandsFor.{StandsFor, Represents, seen, unescaped}
-use Rattle.play_core.specs.Escapes.{IsOwn, Refers, IsFirst, IsPlan, lengths_of, sum_of, CanMove}
+use Rattle.play_core.specs.Planning.{IsOwn, Refers, IsFirst, Walked, IsPlan, lengths_of, sum_of}
+use Rattle.play_core.proofs.Stopping.{found_less}
+use Rattle.play_core.specs.Escapes.{CanMove}
 use Rattle.play_core.proofs.Walking.{own_there, some_plan}
 use Rattle.play_core.proofs.Moving.{block_there, own_block, needed_sum, own_enough, got_escaped, escape_at}
 
@@ -199,28 +201,33 @@ module _ (p : SoloZone) (z : State) (first second : Option BlockId) (ids : List 
   pub plan_needs : quanta_needed z (among ids) ≡ sum_of p.blocks ids
   plan_needs = needed_sum p z ids s.shows plan.walked.distinct plan.walked.own
 
-  pub plan_fits : (fit : Bool) → fit ≡ nat_le (used_by p.heap.blocks + sum_of p.blocks ids) p.heap.options.heap_quanta → is_overfull z (quanta_needed z (among ids)) ≡ not fit
-  plan_fits fit is =
-      full_stands p.heap z (quanta_needed z (among ids)) s.shows.heap ∙ ap (λ n. nat_lt p.heap.options.heap_quanta (used_by p.heap.blocks + n)) plan_needs
-      ∙ turned p.heap.options.heap_quanta (used_by p.heap.blocks + sum_of p.blocks ids) ∙ ap not (sym is)
+  full_sum : is_overfull z (quanta_needed z (among ids)) ≡ nat_lt p.heap.options.heap_quanta (used_by p.heap.blocks + sum_of p.blocks ids)
+  full_sum = full_stands p.heap z (quanta_needed z (among ids)) s.shows.heap ∙ ap (λ n. nat_lt p.heap.options.heap_quanta (used_by p.heap.blocks + n)) plan_needs
+
+  -- it fits where its quanta are within the room
+  pub plan_fits : (room : ℕ) → used_by p.heap.blocks + room ≡ p.heap.options.heap_quanta → sum_of p.blocks ids ≤ room → is_overfull z (quanta_needed z (among ids)) ≡ false
+  plan_fits room rest fits = full_sum ∙ below p.heap.options.heap_quanta (used_by p.heap.blocks + sum_of p.blocks ids) (omega (arith, rest, fits))
     where
-      turned : (a b : ℕ) → nat_lt a b ≡ not (nat_le b a)
-      turned a b = go (nat_lt a b) refl (nat_le b a) refl
-        where
-          go : (x : Bool) → nat_lt a b ≡ x → (y : Bool) → nat_le b a ≡ y → x ≡ not y
-          go true h true k = absurd (grind (arith, nat_tests))
-          go true h false k = refl
-          go false h true k = refl
-          go false h false k = absurd (grind (arith, nat_tests))
+      below : (a b : ℕ) → b ≤ a → nat_lt a b ≡ false
+      below a b l = grind (arith, nat_tests)
+
+  -- and doesn't where some of its blocks pass the room
+  pub plan_passes : (found : List BlockId) (room : ℕ) → Walked p.blocks (IsFirst first second) found → used_by p.heap.blocks + room ≡ p.heap.options.heap_quanta → room < sum_of p.blocks found → is_overfull z (quanta_needed z (among ids)) ≡ true
+  plan_passes found room walked rest passes =
+      let less : sum_of p.blocks found ≤ sum_of p.blocks ids = found_less p z (IsFirst first second) found ids s.shows walked plan in
+      full_sum ∙ above p.heap.options.heap_quanta (used_by p.heap.blocks + sum_of p.blocks ids) (omega (arith, rest, passes, less))
+    where
+      above : (a b : ℕ) → a < b → nat_lt a b ≡ true
+      above a b l = grind (arith, nat_tests)
 
   -- the heap may take what was planned, once there is room
-  pub plan_moves : nat_le (used_by p.heap.blocks + sum_of p.blocks ids) p.heap.options.heap_quanta ≡ true → (h : Shared) (few : (p.serials ≤ p.options.serials) × (p.options.serials ≤ 2 ^ 32)) (own : (p.own ≤ p.options.local_quanta) × (p.options.local_quanta ≤ 65536)) → h ≡ record p.heap { room = lengths_of p.blocks ids }
+  pub plan_moves : used_by p.heap.blocks + sum_of p.blocks ids ≤ p.heap.options.heap_quanta → (h : Shared) (few : (p.serials ≤ p.options.serials) × (p.options.serials ≤ 2 ^ 32)) (own : (p.own ≤ p.options.local_quanta) × (p.options.local_quanta ≤ 65536)) → h ≡ record p.heap { room = lengths_of p.blocks ids }
       → CanMove (record p { heap = h; few_serials = few; own_fits = own }) ids
   plan_moves fit h few own same = subst (λ h. CanMove (record p { heap = h; few_serials = few; own_fits = own }) ids) (sym same) record {
     distinct = plan.walked.distinct;
     own = plan.walked.own;
     room = refl;
-    fits = grind (arith, nat_tests);
+    fits = fit;
     counted = own_enough p z ids s.shows s.sound plan.walked.distinct plan.walked.own;
     whole = λ q b is. s.sound.filled q (seen b) (block_there p z q b s.shows is) refl;
     absent = λ q own. s.shows.heap.blocks q ∙ ap (escaped_view z.reclaims) (own_block p z q s.shows own).1;

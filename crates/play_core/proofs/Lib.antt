@@ -7,6 +7,7 @@ pub mod Answered
 pub mod Shared
 pub mod Walking
 pub mod Moving
+pub mod Stopping
 pub mod Escaping
 pub mod Publishing
 pub mod Counting

@@ -22,7 +22,8 @@ use Rattle.play_core.specs.declared.zone.LocalBlock.{LocalBlock}
 use Rattle.play_core.specs.declared.zone.SoloZone.{SoloZone}
 use Rattle.play_core.specs.Soundness.{IsSound}
 use Rattle.play_core.specs.StandsFor.{Represents, seen, unescaped}
-use Rattle.play_core.specs.Escapes.{Blocks, IsOwn, length_at, quanta_at, Distinct, lengths_of, sum_of, CanMove, Moves}
+use Rattle.play_core.specs.Planning.{Blocks, IsOwn, length_at, quanta_at, Distinct, lengths_of, sum_of}
+use Rattle.play_core.specs.Escapes.{CanMove, Moves}
 use Rattle.play_core.proofs.Walking.{among_more, same_is, same_self, same_turned, own_there}
 
 -- what is unescaped is there
@@ -39,7 +40,7 @@ pub block_there : (p : SoloZone) (z : State) (q : BlockId) (b : LocalBlock) → 
 block_there p z q b s is = unescaped_is (get z.blocks q) (seen b) (s.blocks q ∙ ap (option_map seen) is)
 
 -- the quanta of a block of the map
-known_quanta : (m : Blocks) (id : BlockId) (b : LocalBlock) → tree.get id_cmp m id ≡ Some b → quanta_at m id ≡ quanta (len_of b.layout)
+pub known_quanta : (m : Blocks) (id : BlockId) (b : LocalBlock) → tree.get id_cmp m id ≡ Some b → quanta_at m id ≡ quanta (len_of b.layout)
 known_quanta m id b is = ap (λ (o : Option LocalBlock). option_map_or (λ k. quanta (len_of k.layout)) o 0) is
 
 -- an unescaped block of the zone, in the state, with its quanta
@@ -56,7 +57,7 @@ sum_split f g h (x ∷ es) e =
     let rest : list_total f es ≡ list_total g es + list_total h es = sum_split f g h es e in
     omega (arith, here, rest)
 
-total_split : {X : Type 0} (f g h : BlockId → X → ℕ) (m : FinMap id_cmp X) → ((k : BlockId) (x : X) → f k x ≡ g k x + h k x) → total f m ≡ total g m + total h m
+pub total_split : {X : Type 0} (f g h : BlockId → X → ℕ) (m : FinMap id_cmp X) → ((k : BlockId) (x : X) → f k x ≡ g k x + h k x) → total f m ≡ total g m + total h m
 unfolding total
 total_split f g h m e = sum_split f g h (entries m) e
 

@@ -15,7 +15,7 @@ use Rattle.az_base.specs.Ids.{id_cmp, among, same_id, ids_total, exact_ids}
 use Rattle.zone_model.specs.State.{referent}
 use Rattle.zone_model.specs.Reach.{Path, Leads}
 use Rattle.play_core.specs.declared.zone.LocalBlock.{LocalBlock}
-use Rattle.play_core.specs.Escapes.{Blocks, IsOwn, words_at, Refers, Visits, Distinct, Follows, IsFirst, Walked, IsPlan}
+use Rattle.play_core.specs.Planning.{Blocks, IsOwn, words_at, Refers, Visits, Distinct, Follows, IsFirst, Walked, IsPlan}
 
 pub one_of : (b : Bool) → (b ≡ true) ⊎ (b ≡ false)
 one_of true = inl refl

@@ -3,5 +3,6 @@ pub mod Soundness
 pub mod StandsFor
 pub mod Births
 pub mod Words
+pub mod Planning
 pub mod Escapes
 pub mod Playing

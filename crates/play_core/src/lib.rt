@@ -14,6 +14,7 @@ mod births;
 mod counts;
 mod ends;
 mod escapes;
+mod planning;
 mod playing;
 mod registers;
 mod roots;

@@ -1,8 +1,8 @@
 use Rattle.std.proofs.Common.{length, refl, subst}
 use Rattle.std.proofs.lemmas.Option.{slice_get_read}
-use Rattle.play_core.specs.Escapes.{Visits}
+use Rattle.play_core.specs.Planning.{Visits}
 use Rattle.play_core.proofs.Walking.{followed_more, followed_all}
-use Rattle.play_core.proofs.escapes.Search.follow.Goals as goal
+use Rattle.play_core.proofs.planning.Search.follow.Goals as goal
 
 pub loop-word-preserved : goal.loop-word-preserved
 loop-word-preserved c =
@@ -10,6 +10,7 @@ loop-word-preserved c =
     let i = c.loop-word.word-index in
     record {
       seen = c.in_ok-visit.ensures.seen;
+      counted = λ room before. c.in_ok-visit.ensures.counted room (c.loop-word.invariant.counted room before);
       followed = followed_more c.args.blocks.now _ _ _ words i c.word-item.result c.loop-word.invariant.followed (slice_get_read words (length words) i c.word-item.result refl c.loop-word-test.true c.word-item.is)
           (subst (Visits c.args.blocks.now _ _) c.referent.ensures c.in_ok-visit.ensures.visits);
     }

@@ -2,16 +2,17 @@ use Rattle.std.proofs.Common.{◌≡◌, ◌≤◌, ◌<◌, ◌-◌, ℕ, true,
 use Rattle.std.specs.BTreeMap.{btree_map_len}
 use Rattle.az_base.specs.declared.block_id.BlockId.{BlockId}
 use Rattle.az_base.specs.Ids.{among}
-use Rattle.play_core.specs.Escapes.{IsSeen, IsOwn, IsFirst, Refers, Walked}
-use Rattle.play_core.proofs.escapes.plan.Given as goal
+use Rattle.play_core.specs.Planning.{IsSeen, IsOwn, IsFirst, Refers, Walked, Counts}
+use Rattle.play_core.proofs.planning.plan.Given as goal
 
-abbrev pub invariant-loop-at : goal.invariant-loop-at
-invariant-loop-at l = record {
+abbrev pub invariant-loop-walk : goal.invariant-loop-walk
+invariant-loop-walk l = record {
   seen : IsSeen l.walk;
+  counted : Counts l.blocks l.room l.walk;
   walked : Walked l.blocks (IsFirst l.fn.first l.fn.second) l.walk.found.items;
   done : (k : ℕ) (a b : BlockId) → k < l.at → slice_get l.walk.found.items k ≡ Some a → Refers l.blocks a b → IsOwn l.blocks b → among l.walk.found.items b ≡ true;
   before : l.at ≤ length l.walk.found.items;
 }
 
-abbrev pub decreases-loop-at : goal.decreases-loop-at
-decreases-loop-at l = btree_map_len l.blocks - l.at
+abbrev pub decreases-loop-walk : goal.decreases-loop-walk
+decreases-loop-walk l = btree_map_len l.blocks - l.at

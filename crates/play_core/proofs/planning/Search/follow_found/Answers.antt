@@ -2,7 +2,7 @@ use Rattle.std.proofs.Common.{length, refl, rules}
 use Rattle.std.proofs.lemmas.Option.{slice_get_read}
 use Rattle.std.proofs.lemmas.Result.{on_ok_weaker}
 use Rattle.play_core.proofs.Walking.{follows_there, follows_missing}
-use Rattle.play_core.proofs.escapes.Search.follow_found.Goals as goal
+use Rattle.play_core.proofs.planning.Search.follow_found.Goals as goal
 
 pub returns-in-Some-clause-follows : goal.returns-in-Some-clause-follows
 returns-in-Some-clause-follows c =
