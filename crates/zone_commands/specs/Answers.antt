@@ -1,18 +1,17 @@
 -- What each answer of the program says
-use Rattle.std.specs.Prelude.{◌≡◌, ◌⊎◌, Bool, false, ℕ, ◌≤◌, nat_lt, List, [], ◌∷◌, ◌++◌, length, Result, Ok, Err, codes, if◌then◌else◌}
-use Rattle.std.specs.declared.option.Option.{Option}
+use Rattle.std.specs.Prelude.{◌≡◌, ◌⊎◌, ◌+◌, Bool, false, ℕ, ◌≤◌, ◌<◌, List, [], ◌∷◌, ◌++◌, length, Option, Some, Result, Err, codes}
 use Rattle.std.specs.Io.KnownBytes.{Consumes, IsAtEnd}
 use Rattle.std.specs.Fmt.{decimal}
 use Rattle.std.specs.Str.{bytes_eq}
 use Rattle.az_outside.specs.Causes.{Rose}
-use Rattle.az_outside.specs.Bytes.{GrewByFront}
+use Rattle.az_outside.specs.Bytes.{GrewByFront, Takes}
 use Rattle.zone_model.specs.declared.entry.Entry.{Entry}
 use Rattle.zone_model.specs.declared.entry.Stats.{Stats}
 use Rattle.heap_script.specs.declared.cause.Cause.{Cause}
 use Rattle.heap_script.specs.declared.cause.Cause.TheVariants as causes
 use Rattle.heap_script.specs.declared.script.Script.{Script}
 use Rattle.heap_script.specs.Refusals.{Refusal}
-use Rattle.heap_script.specs.Reading.Scripts.{script_of}
+use Rattle.heap_script.specs.Scripts.{IsScript, IsRefused}
 use Rattle.zone_commands.specs.declared.status.Status.{Status}
 use Rattle.zone_commands.specs.declared.status.Status.TheVariants as status
 use Rattle.zone_commands.specs.declared.status.Stop.{Stop}
@@ -31,7 +30,7 @@ pub record IsPlayed (bytes text : List ℕ) : Type 0 where
   pub script : Script
   pub history : List Entry
   pub stats : Stats
-  pub parsed : script_of bytes ≡ Ok script
+  pub parsed : IsScript bytes script
   pub played : IsHistoryOf script.options (requests_of script) history stats
   pub spelled : text ≡ history_text script.options history stats
 
@@ -57,7 +56,7 @@ pub record Refuses (limit : ℕ) (old new : Option (List ℕ)) (cause : Cause) (
   pub bytes : List ℕ
   pub read : GaveAll old new bytes
   pub short : length bytes ≤ limit
-  pub parsed : script_of bytes ≡ Err (record { cause = cause; line = line })
+  pub parsed : IsRefused bytes (record { cause = cause; line = line })
 
 -- this text was written, or a front of it where the sink failed
 abbrev pub Says : ℕ → ℕ → (List ℕ → Type 0) → List ℕ → Type 0
@@ -92,11 +91,19 @@ abbrev pub IfRefused : {T : Type 0} → Result T Stop → (Cause → ℕ → Typ
 IfRefused (Err (stops.Refused cause line)) P = P cause line
 IfRefused _ P = Unit {0}
 
--- what is answered where a script was read or not
-abbrev pub answer_of : Result Script Refusal → Status
-answer_of (Ok script) = status.Done
-answer_of (Err refusal) = status.ScriptRefused
+-- the bytes alone determine the status: TooLong past the limit, and else by whether they are a script
+pub record IsAnswerTo (limit : ℕ) (bytes : List ℕ) (s : Status) : Type 0 where
+  pub long : limit < length bytes → s ≡ status.TooLong
+  pub played : (script : Script) → length bytes ≤ limit → IsScript bytes script → s ≡ status.Done
+  pub refused : (refusal : Refusal) → length bytes ≤ limit → IsRefused bytes refusal → s ≡ status.ScriptRefused
 
--- what is answered to these bytes, where nothing fails and memory is there
-abbrev pub answer_to : ℕ → List ℕ → Status
-answer_to limit bytes = if nat_lt limit (length bytes) then status.TooLong else answer_of (script_of bytes)
+-- how the command ended: what each status says of the source, of the output and of the error output, before and after
+pub record Ended (limit : ℕ) (s : Status) (old new : Option (List ℕ)) (reads_old reads_new : ℕ) (grew : List ℕ → Type 0) (writes_old writes_new : ℕ) (said : List ℕ → Type 0) (says_old says_new : ℕ) : Type 0 where
+  pub done : s ≡ status.Done → Played limit old new grew × said []
+  pub refused : s ≡ status.ScriptRefused → (cause : Cause) × (line : ℕ) × Refuses limit old new cause line × grew [] × Says says_old says_new said (refusal_text cause line)
+  pub read : s ≡ status.ReadFault → Rose reads_old reads_new × grew [] × Says says_old says_new said (told (codes "read fault"))
+  pub too_long : s ≡ status.TooLong → Takes (limit + 1) old new × grew [] × Says says_old says_new said (told (codes "too long"))
+  pub write : s ≡ status.WriteFault → Rose writes_old writes_new × PlayedPart old new grew × Says says_old says_new said (told (codes "write fault"))
+  pub memory : s ≡ status.NoMemory → grew [] × Says says_old says_new said (told (codes "no memory"))
+  -- where nothing fails, the bytes alone determine the status, unless memory runs out
+  pub complete : (given : List ℕ) → old ≡ Some given → ¬ Rose reads_old reads_new → ¬ Rose writes_old writes_new → IsAnswerTo limit given s ⊎ (s ≡ status.NoMemory)

@@ -1,14 +1,13 @@
 //! The commands.
-ghost use Rattle.std.specs.Prelude.{◌≡◌, ◌≢◌, ◌⊎◌, ◌+◌, [], ℕ, List, Some, OnOk, Err, codes};
+ghost use Rattle.std.specs.Prelude.{◌≡◌, ◌≢◌, ◌+◌, [], OnOk, Err};
 ghost use Rattle.az_outside.specs.Causes.{Rose};
 ghost use Rattle.az_outside.specs.Bytes.{Takes};
-ghost use Rattle.heap_script.specs.declared.cause.Cause.{Cause};
-ghost use Rattle.zone_commands.specs.Answers.{Played, PlayedPart, Refuses, IfRefused, Says, told, refusal_text, answer_to};
+ghost use Rattle.zone_commands.specs.Answers.{Played, PlayedPart, Refuses, IfRefused, Ended};
 
 use crate::saying::{refusal, say};
 use crate::status::{Status, Stop};
 use az_outside::{Sink, Source, read_all, write_all};
-use heap_script::parse;
+use heap_script::{parse, scripts_are_read, scripts_are_refused};
 use play_core::play;
 use std::alloc::Global;
 use zone_history::write_text;
@@ -48,31 +47,12 @@ pub fn play_command<S: Source, O: Sink, E: Sink>(
     out: &mut O,
     err: &mut E,
 ) -> Status
-    ensures done { result ≡ Status.Done →
-        Played LIMIT (S.left source.old) (S.left source.new) (O.grew out.old out.new) × E.grew err.old err.new [] }
-
-    ensures refused { result ≡ Status.ScriptRefused → (cause : Cause) × (line : ℕ) × Refuses LIMIT (S.left source.old) (S.left source.new) cause line
-        × O.grew out.old out.new [] × Says (E.faults err.old) (E.faults err.new) (E.grew err.old err.new) (refusal_text cause line) }
-
     ensures usage { result ≢ Status.Usage }
-
-    ensures read { result ≡ Status.ReadFault → Rose (S.faults source.old) (S.faults source.new)
-        × O.grew out.old out.new [] × Says (E.faults err.old) (E.faults err.new) (E.grew err.old err.new) (told (codes "read fault")) }
-
-    ensures too_long { result ≡ Status.TooLong → Takes (LIMIT + 1) (S.left source.old) (S.left source.new)
-        × O.grew out.old out.new [] × Says (E.faults err.old) (E.faults err.new) (E.grew err.old err.new) (told (codes "too long")) }
-
-    ensures write { result ≡ Status.WriteFault → Rose (O.faults out.old) (O.faults out.new)
-        × PlayedPart (S.left source.old) (S.left source.new) (O.grew out.old out.new)
-        × Says (E.faults err.old) (E.faults err.new) (E.grew err.old err.new) (told (codes "write fault")) }
-
-    ensures memory { result ≡ Status.NoMemory → O.grew out.old out.new []
-        × Says (E.faults err.old) (E.faults err.new) (E.grew err.old err.new) (told (codes "no memory")) }
-
-    // Where nothing fails, the bytes alone determine the status, unless memory runs out.
-    ensures complete { (given : List ℕ) → S.left source.old ≡ Some given → ¬ Rose (S.faults source.old) (S.faults source.new) → ¬ Rose (O.faults out.old) (O.faults out.new)
-        → (result ≡ answer_to LIMIT given) ⊎ (result ≡ Status.NoMemory) }
+    ensures ended { Ended LIMIT result (S.left source.old) (S.left source.new) (S.faults source.old) (S.faults source.new)
+        (O.grew out.old out.new) (O.faults out.old) (O.faults out.new) (E.grew err.old err.new) (E.faults err.old) (E.faults err.new) }
 {
+    scripts_are_read();
+    scripts_are_refused();
     match play_script(alloc, source, out) {
         Ok(()) => Status::Done,
         Err(Stop::Refused { cause, line }) => match refusal(alloc, cause, line) {

@@ -8,7 +8,7 @@ use heap_script::{Cause, ScriptErr};
 use std::alloc::AllocError;
 
 /// How a call of the program ends.
-#[derive(Clone, Copy, Debug, PartialEq, Eq)]
+#[derive(Clone, Copy, PartialEq, Eq)]
 pub enum Status {
     /// The whole text was written.
     Done,
@@ -41,7 +41,7 @@ impl Status {
 }
 
 /// Why a command stopped before all was written.
-#[derive(Clone, Copy, Debug, PartialEq, Eq)]
+#[derive(Clone, Copy)]
 pub enum Stop {
     Refused { cause: Cause, line: u32 },
     ReadFault,
