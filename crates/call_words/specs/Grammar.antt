@@ -4,6 +4,7 @@ use Rattle.az_base.specs.declared.action.Action.{Action}
 use Rattle.az_base.specs.declared.action.Action.TheVariants as action
 use Rattle.az_base.specs.declared.block_id.BlockId.{BlockId}
 use Rattle.az_base.specs.declared.numbers.Key.{Key}
+use Rattle.az_base.specs.declared.numbers.TheConstants.{MOST_THREADS}
 use Rattle.az_base.specs.declared.numbers.RootNo.{RootNo}
 use Rattle.az_words.specs.Grammar.{IsNumberIn}
 use Rattle.block_layouts.specs.declared.layout.Shape.{Shape}
@@ -33,7 +34,7 @@ IsPlace word at = IsNumberIn 0 4294967295 word at
 
 -- a thread, a dot, and a serial of 32 bits
 abbrev pub IsId : List ℕ → BlockId → Type 0
-IsId word id = (thread : List ℕ) × (serial : List ℕ) × (word ≡ thread ++ 46 ∷ serial) × IsNumberIn 1 16 thread id.thread × IsNumberIn 0 4294967295 serial id.serial
+IsId word id = (thread : List ℕ) × (serial : List ℕ) × (word ≡ thread ++ 46 ∷ serial) × IsNumberIn 1 MOST_THREADS thread id.thread × IsNumberIn 0 4294967295 serial id.serial
 
 -- an object of 1 to 4,096 words: a letter S, W or P for each, and no other letter
 abbrev pub IsObject : List ℕ → Shape → Type 0

@@ -9,7 +9,7 @@ ghost use Rattle.call_words.specs.Reading.Words.{thread_of, lettered, reg_of, ro
 ghost use Rattle.call_words.specs.Reading.Calls.{Reads, next_as, place_at, location_at};
 
 use crate::keywords::{CollectName, LayoutName, collect_name, layout_name};
-use az_base::{BlockId, Key, Reg, RootNo, ThreadNo, WeakNo};
+use az_base::{BlockId, Key, MOST_THREADS, Reg, RootNo, ThreadNo, WeakNo};
 use az_words::{Words, cut_at, number, small_number};
 use zone_model::Loc;
 
@@ -18,7 +18,7 @@ use zone_model::Loc;
 fn thread(word: &[u8]) -> Option<ThreadNo>
     ensures { result ≡ thread_of word.now }
 {
-    let number = small_number(1, 16, word)?;
+    let number = small_number(1, MOST_THREADS, word)?;
     ThreadNo::new(number)
 }
 

@@ -3,7 +3,7 @@
 #![tactic(auto)]
 
 use at_mutex::run_at_mutex;
-use az_base::NoMemory;
+use az_base::{MOST_THREADS, NoMemory};
 use gate_workers::run_crew;
 use std::alloc::Global;
 use std::env;
@@ -53,7 +53,7 @@ fn entries<R: Threads + Wait + Sync>(rt: &R, alloc: Global, wanted: Wanted) -> O
         threads,
         turns,
     } = wanted;
-    if threads < 1 || 16 < threads {
+    if threads < 1 || MOST_THREADS < threads {
         return None;
     }
     if at_gate {

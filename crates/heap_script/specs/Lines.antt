@@ -1,6 +1,7 @@
 -- What a line of a script is
 use Rattle.std.specs.Prelude.{◌≡◌, ◌≤◌, ◌==◌, ℕ, Bool, true, false, List, [], ◌∷◌, length, All, Option, Some, None, codes}
 use Rattle.std.specs.Str.{IsUtf8}
+use Rattle.az_base.specs.declared.numbers.TheConstants.{MOST_THREADS}
 use Rattle.az_words.specs.Words.{words_of}
 use Rattle.az_words.specs.Grammar.{IsNumberIn}
 use Rattle.call_words.specs.declared.names.CallName.{CallName}
@@ -36,7 +37,7 @@ pub record LineAt (only : Option ℕ) (words : List (List ℕ)) (line : Line) (l
   pub name : CallName
   pub others : List (List ℕ)
   pub spelled : words ≡ first ∷ name_text name ∷ others
-  pub thread : IsNumberIn 1 16 first line.thread
+  pub thread : IsNumberIn 1 MOST_THREADS first line.thread
   pub built : is_built_before name others ≡ true
   pub same : IsOnly only line.thread
   pub asks : AsksAt most_actions name others line.act left

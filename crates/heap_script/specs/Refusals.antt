@@ -1,6 +1,7 @@
 -- What each cause says of a line that is refused
 use Rattle.std.specs.Prelude.{◌≡◌, ◌≤◌, ◌<◌, ℕ, true, false, List, [], ◌∷◌, length, Option, Some, None, codes, if◌then◌else◌}
 use Rattle.std.specs.Str.{IsUtf8, bytes_eq}
+use Rattle.az_base.specs.declared.numbers.TheConstants.{MOST_THREADS}
 use Rattle.az_words.specs.Words.{words_of}
 use Rattle.az_words.specs.Grammar.{IsNumberIn}
 use Rattle.call_words.specs.declared.names.CallName.{CallName}
@@ -16,12 +17,12 @@ use Rattle.heap_script.specs.Lines.{IsFit, is_skipped, LineAt, SettingAt}
 
 -- the first word is a thread
 abbrev pub HasThread : List (List ℕ) → Type 0
-HasThread words = (first : List ℕ) × (others : List (List ℕ)) × (n : ℕ) × (words ≡ first ∷ others) × IsNumberIn 1 16 first n
+HasThread words = (first : List ℕ) × (others : List (List ℕ)) × (n : ℕ) × (words ≡ first ∷ others) × IsNumberIn 1 MOST_THREADS first n
 
 -- the first word is a thread, and the second one names a call that is built
 abbrev pub HasCall : List (List ℕ) → Type 0
 HasCall words =
-    (first : List ℕ) × (others : List (List ℕ)) × (name : CallName) × (n : ℕ) × (words ≡ first ∷ name_text name ∷ others) × IsNumberIn 1 16 first n × (is_built_before name others ≡ true)
+    (first : List ℕ) × (others : List (List ℕ)) × (name : CallName) × (n : ℕ) × (words ≡ first ∷ name_text name ∷ others) × IsNumberIn 1 MOST_THREADS first n × (is_built_before name others ≡ true)
 
 -- what a call line lacks where it has this cause
 abbrev pub LineCause : Option ℕ → List (List ℕ) → Cause → Type 0

@@ -1,4 +1,5 @@
 -- Threads with their entries: the maps that views have, as lists
+use Rattle.az_base.specs.declared.numbers.TheConstants.{MOST_THREADS}
 use Rattle.std.specs.Prelude.{◌≡◌, ◌⊎◌, ⊤, ℕ, List, [], ◌∷◌, map}
 use Rattle.zone_model.specs.declared.entry.Entry.{Entry}
 use Rattle.zone_model.specs.History.{entries_of}
@@ -6,7 +7,7 @@ use Rattle.zone_gate.specs.declared.view.Owned.{Owned}
 
 -- how many threads a gate has at most
 abbrev pub most_threads : ℕ
-most_threads = 16
+most_threads = MOST_THREADS
 
 -- a thread with its entries
 abbrev pub owned : ℕ → List Entry → Owned

@@ -1,6 +1,7 @@
 -- What single words of a call line say
 use Rattle.std.specs.Prelude.{ℕ, List, [], ◌∷◌, ◌==◌, ◌&&◌, length, nat_lt, nat_le, if◌then◌else◌, Option, Some, None, is_none}
 use Rattle.std.specs.Option.{option_map}
+use Rattle.az_base.specs.declared.numbers.TheConstants.{MOST_THREADS}
 use Rattle.az_base.specs.declared.block_id.BlockId.{BlockId}
 use Rattle.az_base.specs.declared.numbers.Key.{Key}
 use Rattle.az_base.specs.declared.numbers.RootNo.{RootNo}
@@ -14,7 +15,7 @@ use Rattle.block_layouts.specs.Letters.{first_other, classes_of}
 
 -- a numeral 1 to 16
 unfoldable pub thread_of : List ℕ → Option ℕ
-thread_of word = number_in 1 16 word
+thread_of word = number_in 1 MOST_THREADS word
 
 -- this letter and a numeral up to a bound
 abbrev pub lettered : ℕ → ℕ → List ℕ → Option ℕ
@@ -45,7 +46,7 @@ id_from _ _ = None
 -- a thread and a serial
 abbrev pub id_by : Option (List ℕ × List ℕ) → Option BlockId
 id_by None = None
-id_by (Some parts) = id_from (number_in 1 16 parts.0) (number_in 0 4294967295 parts.1)
+id_by (Some parts) = id_from (number_in 1 MOST_THREADS parts.0) (number_in 0 4294967295 parts.1)
 
 -- a thread, a dot, and a serial of 32 bits
 unfoldable pub block_of : List ℕ → Option BlockId
