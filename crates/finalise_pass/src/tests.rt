@@ -357,26 +357,19 @@ fn finalised_blocks_are_kept_with_what_they_reach(rt: HostRuntime) -> Result<(),
     let thread = first_thread()?;
     let mut graph = graph_of(alloc, &[&[], &[2], &[], &[], &[]], &[], &[], 0)?;
     let end = run_cycle(alloc, &mut graph, Mode::Full, 10)?;
-    assert!(rt; are(&end.condemned.ids, &[0, 1, 2, 3, 4]));
+    let condemned = are(&end.condemned.ids, &[0, 1, 2, 3, 4]);
     let keeps = [Action::Keep(RootNo(6)), Action::Keep(RootNo(5))];
     let passes = [Action::Pass(RootNo(6), 0)];
     let mut finals = finals_of(alloc, &[&[], &keeps, &[], &passes, &[]], &[0])?;
     let mut pass = pass_over(alloc, end.condemned)?;
-    assert_eq!(rt; finalise(&mut pass, &mut finals), 2);
-    assert_eq!(rt;
-        finals.roots.get(5).copied(),
-        Some(Some(BlockId { thread, serial: 1 })),
-        "kept"
-    );
-    assert_eq!(rt;
-        finals.roots.get(6).copied(),
-        Some(Some(BlockId { thread, serial: 0 })),
-        "passed on, after block 1 had kept itself there"
-    );
+    let finalised = finalise(&mut pass, &mut finals) == 2;
+    // Block 1 is kept, and block 0 is passed on, after block 1 had kept itself there.
+    let rooted = finals.roots.get(5).copied() == Some(Some(BlockId { thread, serial: 1 }))
+        && finals.roots.get(6).copied() == Some(Some(BlockId { thread, serial: 0 }));
     graph.set_anchors(ids(alloc, thread, &[1, 0])?);
     let settled = settle(&mut graph, pass);
-    assert!(rt; are(&settled.kept, &[0, 1, 2]), "what the roots reach");
-    assert!(rt; are(&settled.reclaimed, &[3, 4]), "the others");
+    let settled = are(&settled.kept, &[0, 1, 2]) && are(&settled.reclaimed, &[3, 4]);
+    assert!(rt; condemned && finalised && rooted && settled);
     Ok(())
 }
 
@@ -386,13 +379,13 @@ fn a_dead_block_outside_keeps_what_it_refers_to(rt: HostRuntime) -> Result<(), F
     let thread = first_thread()?;
     let mut graph = graph_of(alloc, &[&[], &[2], &[], &[]], &[0], &[], 0)?;
     let end = run_cycle(alloc, &mut graph, Mode::Full, 10)?;
-    assert!(rt; are(&end.condemned.ids, &[1, 2, 3]));
+    let condemned = are(&end.condemned.ids, &[1, 2, 3]);
     let pass = pass_over(alloc, end.condemned)?;
     graph.set_anchors(Vec::new(alloc));
     graph.store(BlockId { thread, serial: 0 }, BlockId { thread, serial: 1 })?;
     let settled = settle(&mut graph, pass);
-    assert!(rt; are(&settled.kept, &[1, 2]));
-    assert!(rt; are(&settled.reclaimed, &[3]));
+    let settled = are(&settled.kept, &[1, 2]) && are(&settled.reclaimed, &[3]);
+    assert!(rt; condemned && settled);
     Ok(())
 }
 
@@ -401,12 +394,13 @@ fn ids_that_are_no_blocks_are_not_settled(rt: HostRuntime) -> Result<(), Fail> {
     let alloc = rt.alloc();
     let mut graph = graph_of(alloc, &[&[], &[], &[], &[], &[]], &[0], &[], 0)?;
     let end = run_cycle(alloc, &mut graph, Mode::Full, 10)?;
-    assert!(rt; are(&end.condemned.ids, &[1, 2, 3, 4]));
+    let condemned = are(&end.condemned.ids, &[1, 2, 3, 4]);
     let pass = pass_over(alloc, end.condemned)?;
     let mut smaller = graph_of(alloc, &[&[2], &[], &[]], &[], &[], 0)?;
     let settled = settle(&mut smaller, pass);
-    assert!(rt; are(&settled.kept, &[2]), "what block 0 refers to");
-    assert!(rt; are(&settled.reclaimed, &[1]), "not 3 and 4");
+    // What block 0 refers to is kept; 3 and 4 are in neither list.
+    let settled = are(&settled.kept, &[2]) && are(&settled.reclaimed, &[1]);
+    assert!(rt; condemned && settled);
     Ok(())
 }
 
@@ -422,10 +416,10 @@ fn a_pass_goes_on_where_it_is(rt: HostRuntime) -> Result<(), Fail> {
         &[],
     )?;
     let mut pass = pass_over(alloc, end.condemned)?;
-    let first = pass.next(&finals);
-    assert_eq!(rt; first, Some(BlockId { thread, serial: 0 }));
-    assert_eq!(rt; pass.next(&finals), first, "asking changes nothing");
-    assert_eq!(rt; finalise(&mut pass, &mut finals), 2);
-    assert_eq!(rt; pass.next(&finals), None);
+    let first = Some(BlockId { thread, serial: 0 });
+    // Asking changes nothing.
+    let found = pass.next(&finals) == first && pass.next(&finals) == first;
+    let finalised = finalise(&mut pass, &mut finals) == 2;
+    assert!(rt; found && finalised && pass.next(&finals).is_none());
     Ok(())
 }

@@ -1,4 +1,5 @@
 -- Counts of references that rise and fall
+use Rattle.az_base.proofs.Ids.{same_self}
 use Rattle.std.proofs.Common.{◌≡◌, ℕ, ◌+◌, ◌≤◌, Bool, true, false, cond, Option, Some, None, MatchOption, ◌<◌, zero, suc, refl, ap, ◌∙◌, arith}
 use Rattle.std.specs.Option.{unwrap_or}
 use Rattle.std.specs.declared.cmp.Ordering.{Ordering}
@@ -12,7 +13,6 @@ use Rattle.zone_model.specs.State.{Block}
 use Rattle.local_set.specs.Holds.{one_if, word_holds}
 use Rattle.local_set.specs.Counting.{count_in, IsCounted}
 use Rattle.local_set.specs.declared.references.References.{References}
-use Rattle.local_set.proofs.Tables.{same_self}
 
 -- the counts after one was set
 pub count_set : (m : FinMap id_cmp ℕ) (k : BlockId) (n : ℕ) (q : BlockId) → count_of (with_count m k n) q ≡ cond (same_id q k) n (count_of m q)

@@ -1,4 +1,5 @@
 -- What a write changes in a table of blocks
+use Rattle.az_base.proofs.Ids.{same_self}
 use Rattle.std.proofs.Common.{◌≡◌, ℕ, ◌+◌, ◌<◌, ◌≤◌, Bool, true, false, cond, ◌||◌, Option, Some, None, MatchOption, slice_get, slice_set, option_and_then, refl, ap, ◌∙◌, arith}
 use Rattle.std.specs.FinMap.{FinMap, get}
 use Rattle.az_base.specs.declared.block_id.BlockId.{BlockId}
@@ -12,7 +13,6 @@ use Rattle.zone_model.specs.State.{Block, referent, reference, with_edit}
 use Rattle.block_layouts.specs.Fitting.{Suits, FitsAt}
 use Rattle.local_set.specs.Holds.{one_if, words_to, word_holds}
 use Rattle.local_set.specs.Counting.{list_of}
-use Rattle.local_set.proofs.Tables.{same_self}
 use Rattle.local_set.proofs.Quantities.{holds_edited, holds_there, refers_there}
 
 -- a word that stands where a number may stand is one

@@ -1,9 +1,9 @@
 -- Lists of ids
+use Rattle.az_base.proofs.Ids.{same_turned, same_self, same_is, among_more}
 use Rattle.std.proofs.Common.{◌≡◌, ℕ, ◌+◌, ◌<◌, ◌≤◌, zero, suc, Bool, true, false, ◌||◌, List, [], ◌∷◌, ◌++◌, length, take, drop, Some, slice_get, refl, sym, ap, ◌∙◌, arith, ◌⊎◌, inl, inr}
 use Rattle.az_base.specs.declared.block_id.BlockId.{BlockId}
 use Rattle.az_base.specs.Ids.{among, same_id}
 use Rattle.local_set.specs.Tables.{Distinct}
-use Rattle.local_set.proofs.Tables.{same_is, same_self, turned}
 
 pub some_id : (a b : BlockId) → Some a ≡ Some b → a ≡ b
 some_id a b h = cc
@@ -11,32 +11,6 @@ some_id a b h = cc
 pub or_true : (b : Bool) → (b || true) ≡ true
 or_true true = refl
 or_true false = refl
-
--- one more id at the end
-pub among_more : (ids : List BlockId) (id q : BlockId) → among (ids ++ id ∷ []) q ≡ (among ids q || same_id q id)
-among_more [] id q = or_false (same_id q id)
-  where
-    or_false : (b : Bool) → (b || false) ≡ b
-    or_false true = refl
-    or_false false = refl
-among_more (x ∷ ids) id q = ap (λ b. same_id q x || b) (among_more ids id q) ∙ grouped (same_id q x) (among ids q) (same_id q id)
-  where
-    grouped : (a b c : Bool) → (a || (b || c)) ≡ ((a || b) || c)
-    grouped true b c = refl
-    grouped false b c = refl
-
-pub among_cases : (ids : List BlockId) (id q : BlockId) → among (ids ++ id ∷ []) q ≡ true → (among ids q ≡ true) ⊎ (q ≡ id)
-among_cases ids id q h = go (among ids q) refl (sym (among_more ids id q) ∙ h)
-  where
-    go : (b : Bool) → among ids q ≡ b → (b || same_id q id) ≡ true → (among ids q ≡ true) ⊎ (q ≡ id)
-    go true e h = inl e
-    go false e h = inr (same_is q id h)
-
-pub among_kept : (ids : List BlockId) (id q : BlockId) → among ids q ≡ true → among (ids ++ id ∷ []) q ≡ true
-among_kept ids id q h = among_more ids id q ∙ ap (λ b. b || same_id q id) h
-
-pub among_last : (ids : List BlockId) (id : BlockId) → among (ids ++ id ∷ []) id ≡ true
-among_last ids id = among_more ids id id ∙ ap (λ b. among ids id || b) (same_self id) ∙ or_true (among ids id)
 
 -- what is in the first of two lists, and what is in the second
 pub among_before : (xs ys : List BlockId) (q : BlockId) → among xs q ≡ true → among (xs ++ ys) q ≡ true
@@ -75,7 +49,7 @@ distinct_more (x ∷ ids) id d h = go (same_id id x) refl h (distinct_more ids i
   where
     go : (b : Bool) → same_id id x ≡ b → (b || among ids id) ≡ false → (among ids id ≡ false → Distinct (ids ++ id ∷ [])) → Distinct ((x ∷ ids) ++ id ∷ [])
     go true e h rest = cc
-    go false e h rest = (among_more ids id x ∙ ap (λ b. b || same_id x id) d.0 ∙ turned x id ∙ e, rest h)
+    go false e h rest = (among_more ids id x ∙ ap (λ b. b || same_id x id) d.0 ∙ same_turned x id ∙ e, rest h)
 
 pub last_or_before : (n i : ℕ) → i < n + 1 → (i < n) ⊎ (i ≡ n)
 last_or_before zero zero l = inr refl

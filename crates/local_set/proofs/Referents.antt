@@ -1,4 +1,5 @@
 -- The blocks to which words refer
+use Rattle.az_base.proofs.Ids.{among_cases, same_is, same_self}
 use Rattle.std.proofs.Common.{◌≡◌, ℕ, ◌+◌, ◌<◌, Bool, true, false, cond, ◌||◌, List, [], ◌∷◌, ◌++◌, take, Option, Some, None, slice_get, refl, sym, ap, subst, ◌∙◌, arith, inl, inr}
 use Rattle.std.specs.List.{cons_option}
 use Rattle.std.specs.FinMap.{get}
@@ -10,8 +11,7 @@ use Rattle.local_set.specs.LocalSets.{Table, blocks_of}
 use Rattle.local_set.specs.Holds.{one_if, words_to}
 use Rattle.local_set.specs.Counting.{list_of, referents}
 use Rattle.local_set.specs.Tables.{NotesReferents}
-use Rattle.local_set.proofs.Lists.{next_taken, among_before, among_behind, among_cases}
-use Rattle.local_set.proofs.Tables.{same_is, same_self}
+use Rattle.local_set.proofs.Lists.{next_taken, among_before, among_behind}
 
 pub joined : (xs ys zs : List BlockId) → (xs ++ ys) ++ zs ≡ xs ++ (ys ++ zs)
 joined [] ys zs = refl

@@ -1,4 +1,5 @@
 -- Lists of ids in ascending order, and which ids a table has
+use Rattle.az_base.proofs.Ids.{eq_ids, same_turned, same_is}
 use Rattle.std.proofs.Common.{◌≡◌, ℕ, ◌+◌, Bool, true, false, cond, not, ◌&&◌, ◌||◌, List, [], ◌∷◌, ◌++◌, filter, take, Option, Some, None, is_some, slice_get, get_or, refl, sym, ap, subst, ◌∙◌, arith}
 use Rattle.std.specs.List.{IsDistinct, AllByRecursion, list_any}
 use Rattle.std.specs.List.Sorted.{IsSorted, IsStrictlySortedBy, IsPermutation}
@@ -11,12 +12,12 @@ use Rattle.std.proofs.lemmas.Map.Keys.{sorted_from_all_adjacent, apart_from_dist
 use Rattle.std.proofs.lemmas.Map.Made.{IsDistinct-keys_filter}
 use Rattle.std.proofs.lemmas.List.Sorted.{list_any-IsPermutation}
 use Rattle.az_base.specs.declared.block_id.BlockId.{BlockId}
-use Rattle.az_base.specs.Ids.{id_cmp, id_of, same_id, among, ids_total}
+use Rattle.az_base.specs.Ids.{id_cmp, id_of, same_id, among, ids_total, id_eq}
 use Rattle.zone_model.specs.State.{Block}
 use Rattle.zone_model.specs.Collection.{Lists}
 use Rattle.local_set.specs.LocalSets.{blocks_of}
 use Rattle.local_set.specs.Tables.{Distinct}
-use Rattle.local_set.proofs.Tables.{id_eq, eq_ids, turned, same_is, got}
+use Rattle.local_set.proofs.Tables.{got}
 use Rattle.local_set.proofs.Lists.{next_taken, among_of}
 
 less_only : (a b : BlockId) (r : Ordering) → id_cmp a b ≡ r → is_eq r ≡ false → is_lt (ordering_reverse r) ≡ false → r ≡ Less
@@ -106,7 +107,7 @@ next_but ks found n id h =
 pub listed_but : (es : List (BlockId × Block)) (found ids sorted : List BlockId) → ids ≡ filter (λ b. not (among found b)) (keys_of es) → IsDistinct same_id (keys_of es) → IsPermutation ids sorted → IsSorted id_cmp sorted
     → Lists sorted (λ b. (contains_key (blocks_of es) b ≡ true) × (among found b ≡ false))
 listed_but es found ids sorted is apart perm ordered = (
-  strict sorted ordered (IsDistinct-IsPermutation same_id turned ids sorted perm (subst (IsDistinct same_id) (sym is) (filtered_distinct (λ b. not (among found b)) es apart))),
+  strict sorted ordered (IsDistinct-IsPermutation same_id same_turned ids sorted perm (subst (IsDistinct same_id) (sym is) (filtered_distinct (λ b. not (among found b)) es apart))),
   λ q. (λ h. out (contains_key (blocks_of es) q) (among found q) (sym (same q) ∙ h), λ h. same q ∙ into (contains_key (blocks_of es) q) (among found q) h.0 h.1),
 )
   where

@@ -1,4 +1,5 @@
 -- A table of blocks seen as a finite map
+use Rattle.az_base.proofs.Ids.{eq_ids, same_turned, same_self}
 use Rattle.std.proofs.Common.{◌≡◌, ℕ, ◌==◌, ◌&&◌, ◌||◌, Bool, true, false, cond, List, [], ◌∷◌, Option, Some, None, is_some, refl, sym, ap, ◌∙◌, arith, not}
 use Rattle.std.proofs.lemmas.Bool.Decides.{nat_tests}
 use Rattle.std.proofs.lemmas.Grind.{common_steps}
@@ -11,7 +12,7 @@ use Rattle.std.specs.Cmp.{eq_by_cmp_equiv, tied_itself}
 use Rattle.std.specs.FinMap.{FinMap, get, contains_key, insert, get-from_entries, get-insert, get-empty, empty, retain_keys, same_map}
 use Rattle.std.specs.FinMap.Entries.{find}
 use Rattle.az_base.specs.declared.block_id.BlockId.{BlockId}
-use Rattle.az_base.specs.Ids.{id_cmp, same_id, ids_total, exact_ids}
+use Rattle.az_base.specs.Ids.{id_cmp, same_id, ids_total, exact_ids, id_eq}
 use Rattle.zone_model.specs.State.{Block, with_edit}
 use Rattle.zone_model.proofs.Blocks.{edit_get, left_get}
 use Rattle.local_set.specs.LocalSets.{blocks_of}
@@ -23,26 +24,6 @@ then_eq Greater o = refl
 
 nat_eq_cmp : (x y : ℕ) → (x == y) ≡ is_eq (nat_cmp x y)
 nat_eq_cmp x y = grind (arith, nat_tests, common_steps)
-
--- the derived test of ids
-abbrev pub id_eq : BlockId → BlockId → Bool
-id_eq a b = (a.thread == b.thread) && (a.serial == b.serial)
-
-pub eq_ids : (a b : BlockId) → id_eq a b ≡ same_id a b
-eq_ids a b =
-    ap (λ t. t && (a.serial == b.serial)) (nat_eq_cmp a.thread b.thread) ∙ ap (λ t. is_eq (nat_cmp a.thread b.thread) && t) (nat_eq_cmp a.serial b.serial)
-    ∙ sym (then_eq (nat_cmp a.thread b.thread) (nat_cmp a.serial b.serial))
-
--- ids are one where each test says so, in either order
-pub turned : (a b : BlockId) → same_id a b ≡ same_id b a
-turned a b = (eq_by_cmp_equiv ids_total).symm a b
-
-pub same_self : (a : BlockId) → same_id a a ≡ true
-same_self a = ap is_eq (tied_itself ids_total a)
-
-pub same_is : (a b : BlockId) → same_id a b ≡ true → a ≡ b
-same_is a b h =
-    elim (id_cmp a b) as (λ r. id_cmp a b ≡ r → is_eq r ≡ true → a ≡ b) [ Less ↦ λ e f. cc | Equal ↦ λ e f. exact_ids a b e | Greater ↦ λ e f. cc ] refl h
 
 found : (q : BlockId) (es : List (BlockId × Block)) → find id_cmp q es ≡ lookup (id_eq q) es
 found q [] = refl
@@ -66,7 +47,7 @@ there_is es id b h = got es id ∙ sym h
 -- one block more, or another
 pub inserted : (old new : List (BlockId × Block)) (id : BlockId) (b : Block) → ((q : BlockId) → lookup (id_eq q) new ≡ cond (id_eq id q) (Some b) (lookup (id_eq q) old)) → blocks_of new ≡ insert (blocks_of old) id b
 inserted old new id b is = same_map ids_total exact_ids _ _ (λ q.
-    got new q ∙ is q ∙ ap (cond (id_eq id q) (Some b)) (sym (got old q)) ∙ ap (λ t. cond t (Some b) (get (blocks_of old) q)) (eq_ids id q ∙ turned id q) ∙ sym (get-insert ids_total (blocks_of old) id b q))
+    got new q ∙ is q ∙ ap (cond (id_eq id q) (Some b)) (sym (got old q)) ∙ ap (λ t. cond t (Some b) (get (blocks_of old) q)) (eq_ids id q ∙ same_turned id q) ∙ sym (get-insert ids_total (blocks_of old) id b q))
 
 -- a block was edited
 pub edited : (old new : List (BlockId × Block)) (id : BlockId) (was now : Block) (f : Block → Block) → Some was ≡ lookup (id_eq id) old → now ≡ f was
@@ -106,7 +87,7 @@ left_absent m gone q none = left_get m gone q ∙ ap (λ o. cond (gone q) None o
 
 -- a block that was taken out and put back
 pub put_back : (m : FinMap id_cmp Block) (id : BlockId) (b : Block) → get m id ≡ Some b → insert (retain_keys m (λ q. not (same_id id q))) id b ≡ m
-put_back m id b here = same_map ids_total exact_ids _ _ (λ q. get-insert ids_total (retain_keys m (λ q. not (same_id id q))) id b q ∙ ap (cond (same_id q id) (Some b)) (left_get m (same_id id) q ∙ ap (λ t. cond t None (get m q)) (turned id q)) ∙ at q (id_cmp q id) refl)
+put_back m id b here = same_map ids_total exact_ids _ _ (λ q. get-insert ids_total (retain_keys m (λ q. not (same_id id q))) id b q ∙ ap (cond (same_id q id) (Some b)) (left_get m (same_id id) q ∙ ap (λ t. cond t None (get m q)) (same_turned id q)) ∙ at q (id_cmp q id) refl)
   where
     at : (q : BlockId) (r : Ordering) → id_cmp q id ≡ r → cond (is_eq r) (Some b) (cond (is_eq r) None (get m q)) ≡ get m q
     at q Less e = refl
@@ -120,7 +101,7 @@ left_itself m id = left_get m (same_id id) id ∙ ap (λ t. cond t None (get m i
 pub left_more : (m : FinMap id_cmp Block) (gone : BlockId → Bool) (id : BlockId) (more : BlockId → Bool) → ((q : BlockId) → more q ≡ (gone q || same_id q id))
     → retain_keys (retain_keys m (λ q. not (gone q))) (λ q. not (same_id id q)) ≡ retain_keys m (λ q. not (more q))
 left_more m gone id more is = same_map ids_total exact_ids _ _ (λ q.
-    left_get (retain_keys m (λ q. not (gone q))) (same_id id) q ∙ ap (cond (same_id id q) None) (left_get m gone q) ∙ ap (λ t. cond t None (cond (gone q) None (get m q))) (turned id q)
+    left_get (retain_keys m (λ q. not (gone q))) (same_id id) q ∙ ap (cond (same_id id q) None) (left_get m gone q) ∙ ap (λ t. cond t None (cond (gone q) None (get m q))) (same_turned id q)
     ∙ joined (same_id q id) (gone q) (get m q) ∙ ap (λ t. cond t None (get m q)) (sym (is q)) ∙ sym (left_get m more q))
   where
     joined : (a b : Bool) (o : Option Block) → cond a None (cond b None o) ≡ cond (b || a) None o

@@ -1,4 +1,5 @@
 -- A walk along references finds what the registers lead to, and ends
+use Rattle.az_base.proofs.Ids.{eq_ids, same_is, same_self, among_cases, among_kept, among_last}
 use Rattle.std.proofs.Common.{◌≡◌, ℕ, ◌+◌, ◌<◌, ◌≤◌, suc, Bool, true, false, cond, ◌||◌, List, [], ◌∷◌, ◌++◌, length, Option, Some, None, is_some, slice_get, option_map, refl, sym, ap, subst, ◌∙◌, arith, ◌⊎◌, inl, inr}
 use Rattle.std.proofs.lemmas.Option.{slice_get-map}
 use Rattle.std.specs.Map.{lookup, remove_entry}
@@ -9,14 +10,14 @@ use Rattle.std.specs.FinMap.{get, contains_key}
 use Rattle.az_base.specs.declared.block_id.BlockId.{BlockId}
 use Rattle.az_base.specs.declared.word.Word.{Word}
 use Rattle.az_base.specs.declared.word.Word.TheVariants as word
-use Rattle.az_base.specs.Ids.{among, same_id}
+use Rattle.az_base.specs.Ids.{among, same_id, id_eq}
 use Rattle.zone_model.specs.State.{Block, referent}
 use Rattle.zone_model.specs.Reach.{WordEdge, Path, Leads}
 use Rattle.local_set.specs.LocalSets.{blocks_of}
 use Rattle.local_set.specs.Tables.{Distinct}
 use Rattle.local_set.specs.Walks.{Map, referents_of, words_at, Visits, VisitsAll, IsIn, IsReached}
-use Rattle.local_set.proofs.Tables.{id_eq, eq_ids, same_is, same_self, got}
-use Rattle.local_set.proofs.Lists.{some_id, or_true, among_cases, among_kept, among_last, among_of, place_of, get_kept, distinct_more, last_or_before, within, has}
+use Rattle.local_set.proofs.Tables.{got}
+use Rattle.local_set.proofs.Lists.{some_id, or_true, among_of, place_of, get_kept, distinct_more, last_or_before, within, has}
 
 -- the first n of these blocks were visited
 pub record Visited (m : Map) (old new : List BlockId) (helds : List (Option BlockId)) (n : ℕ) : Type 0 where

@@ -1,10 +1,11 @@
+use Rattle.az_base.proofs.Ids.{among_more}
 use Rattle.std.proofs.Common.{◌+◌, ap, cond, None, is_some, length, not, refl, arith, sym, ◌∙◌, take}
 use Rattle.std.proofs.lemmas.Option.{slice_get_read}
 use Rattle.std.specs.FinMap.{get, retain_keys, contains_key}
 use Rattle.az_base.specs.Ids.{among, same_id}
 use Rattle.zone_model.proofs.Blocks.{left_get}
 use Rattle.local_set.specs.LocalSets.{blocks_of}
-use Rattle.local_set.proofs.Lists.{among_of, among_more, next_taken, all_taken, distinct_before}
+use Rattle.local_set.proofs.Lists.{among_of, next_taken, all_taken, distinct_before}
 use Rattle.local_set.proofs.Tables.{left_more, left_none}
 use Rattle.local_set.proofs.blocks.Blocks.remove_all.Goals as goal
 
