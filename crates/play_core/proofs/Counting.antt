@@ -1,115 +1,43 @@
--- What the calls on counts change, and what a count says of its block
-use Rattle.std.proofs.Common.{◌≡◌, ℕ, ◌≤◌, ◌==◌, ◌⊎◌, inl, inr, [], Bool, true, false, cond, ◌∷◌, Option, Some, None, is_none, IsSome, IfSome, IsTrue, refl, sym, ap, subst, ◌∙◌, arith}
+-- What a count says of an unescaped block
+use Rattle.std.proofs.Common.{◌≡◌, ℕ, ◌≤◌, ◌==◌, zero, suc, Bool, false, cond, [], ◌∷◌, Option, Some, None, is_none, refl, sym, ap, subst, ◌∙◌, arith}
 use Rattle.std.proofs.lemmas.Bool.Decides.{nat_tests}
-use Rattle.std.specs.Option.{option_map, option_map_or, unwrap_or}
+use Rattle.std.specs.Option.{option_map_or, unwrap_or}
 use Rattle.std.specs.BTreeMap as tree
-use Rattle.std.specs.declared.cmp.Ordering.{Ordering}
-use Rattle.std.specs.declared.cmp.Ordering.TheVariants.{Less, Equal, Greater}
-use Rattle.std.specs.Ordering.{is_eq}
-use Rattle.std.specs.FinMap.{FinMap, get, get-insert, get-remove}
+use Rattle.std.specs.FinMap.{FinMap, get}
 use Rattle.az_base.specs.declared.block_id.BlockId.{BlockId}
 use Rattle.az_base.specs.declared.misuse.Misuse.{Misuse}
 use Rattle.az_base.specs.declared.misuse.Misuse.TheVariants as misuse
 use Rattle.az_base.specs.declared.options.Options.{Options}
-use Rattle.az_base.specs.Ids.{id_cmp, same_id, ids_total, exact_ids}
+use Rattle.az_base.specs.Ids.{id_cmp}
 use Rattle.zone_model.specs.declared.call.Call.TheVariants as call
 use Rattle.zone_model.specs.declared.entry.Reply.{Reply}
 use Rattle.zone_model.specs.declared.entry.Reply.TheVariants as reply
-use Rattle.zone_model.specs.State.{State, is_escaped, with_value, positive_count, with_count}
+use Rattle.zone_model.specs.State.{State}
 use Rattle.zone_model.specs.State as state
-use Rattle.zone_model.specs.Effect.{count_in, with_count_in}
-use Rattle.zone_model.specs.Escape.{EscOf, Tells, with_escaped}
+use Rattle.zone_model.specs.Effect.{count_in}
+use Rattle.zone_model.specs.Escape.{with_escaped}
 use Rattle.zone_model.specs.Misuses.{first_of, misuse_of, is_overfull}
 use Rattle.zone_model.specs.Quanta.{quanta_needed}
-use Rattle.shared_heap.specs.Retained.{retain_misuse, take_misuse, after_retain, after_release}
+use Rattle.shared_heap.specs.Retained.{retain_misuse, after_retain, after_release}
 use Rattle.shared_heap.specs.Shared.{Shared}
 use Rattle.shared_heap.specs.Stands.{Stands}
 use Rattle.play_core.specs.declared.zone.LocalBlock.{LocalBlock}
 use Rattle.play_core.specs.declared.zone.SoloZone.{SoloZone}
-use Rattle.play_core.specs.Soundness.{IsThere}
-use Rattle.play_core.specs.StandsFor.{StandsFor, seen}
-use Rattle.play_core.proofs.Changes.{SamePart, SameHold, heap_shows, same_state, escaped_there}
-use Rattle.play_core.proofs.Escaping.{value_escaped}
+use Rattle.play_core.specs.StandsFor.{StandsFor}
 use Rattle.play_core.proofs.Naming.{own_not_escaped}
 
-some_one : {X : Type 0} (x y : X) → Some x ≡ Some y → x ≡ y
-some_one x y h = cc
-
--- where the ids are the same
-same_is : (q id : BlockId) → same_id q id ≡ true → q ≡ id
-same_is q id h = go (id_cmp q id) refl h
-  where
-    go : (r : Ordering) → id_cmp q id ≡ r → is_eq r ≡ true → q ≡ id
-    go Less e f = cc
-    go Equal e f = exact_ids q id e
-    go Greater e f = cc
-
--- what has a value in a map where one value was changed had it before, or is the key of that one
-counted_or_was : (m : FinMap id_cmp ℕ) (id : BlockId) (o : Option ℕ) (q : BlockId) → IsSome (get (with_value m id o) q) → (q ≡ id) ⊎ IsSome (get m q)
-counted_or_was m id None q h = go (same_id q id) refl (subst IsSome (get-remove ids_total m id q) h)
-  where
-    go : (b : Bool) → same_id q id ≡ b → IsSome (cond b None (get m q)) → (q ≡ id) ⊎ IsSome (get m q)
-    go true e h = cc
-    go false e h = inr h
-counted_or_was m id (Some n) q h = go (same_id q id) refl (subst IsSome (get-insert ids_total m id n q) h)
-  where
-    go : (b : Bool) → same_id q id ≡ b → IsSome (cond b (Some n) (get m q)) → (q ≡ id) ⊎ IsSome (get m q)
-    go true e h = inl (same_is q id e)
-    go false e h = inr h
-
--- the heap has changed by the count of an escaped block
-pub counted : (p n : SoloZone) (z : State) (id : BlockId) (count : ℕ) → StandsFor p z → SamePart p n → SameHold p n → Stands n.heap (with_count z id count) → n.heap.room ≡ [] → IsTrue (is_escaped z id) → StandsFor n (with_count z id count)
-counted p n z id count s c held stands room out = record {
-  shows = heap_shows p n z _ s.shows c held record { options = refl; blocks = refl; registers = refl; serials = refl; ended = refl } stands;
-  sound = rw c.thread record {
-    made = s.sound.made;
-    filled = s.sound.filled;
-    registers = s.sound.registers;
-    roots = s.sound.roots;
-    words = s.sound.words;
-    shut = s.sound.shut;
-    counts = λ q h. elim (counted_or_was z.counts id (positive_count count) q h) [
-      | inl e ↦ subst (λ x. IsTrue (is_escaped z x)) (sym e) out
-      | inr e ↦ s.sound.counts q e
-    ];
-    objects = s.sound.objects;
-    values = s.sound.values;
-    shown = s.sound.shown;
-    showing = s.sound.showing;
-    fits = s.sound.fits;
-    limit = s.sound.limit;
-  };
-  room = room;
-}
-
--- the count of the block in a register, if there is one
-pub counted_in : (p n : SoloZone) (z : State) (reg count : ℕ) → StandsFor p z → SamePart p n → SameHold p n → Stands n.heap (with_count_in z p.thread reg count) → n.heap.room ≡ [] → IfSome (z.registers p.thread reg) (λ id. IsTrue (is_escaped z id)) → StandsFor n (with_count_in z p.thread reg count)
-counted_in p n z reg count s part hold stands room out = go (z.registers p.thread reg) stands out
-  where
-    go : (a : Option BlockId) → Stands n.heap (option_map_or (λ b. with_count z b count) a z) → IfSome a (λ id. IsTrue (is_escaped z id)) → StandsFor n (option_map_or (λ b. with_count z b count) a z)
-    go None stands out = same_state p n z s part hold stands room
-    go (Some id) stands out = counted p n z id count s part hold stands room out
-
--- no count opens a cycle
-pub count_cycle : (z : State) (t reg count : ℕ) → z.cycle ≡ None → (with_count_in z t reg count).cycle ≡ None
-count_cycle z t reg count h = go (z.registers t reg)
-  where
-    go : (a : Option BlockId) → (let x : State = option_map_or (λ b. with_count z b count) a z in x.cycle) ≡ None
-    go None = h
-    go (Some id) = h
-
 -- an unescaped block has count 0
-pub own_count : (p : SoloZone) (z : State) (id : BlockId) (b : LocalBlock) → StandsFor p z → tree.get id_cmp p.blocks id ≡ Some b → state.count_of z id ≡ 0
-own_count p z id b s there = go (get z.counts id) refl
+own_count : (p : SoloZone) (z : State) (id : BlockId) (b : LocalBlock) → StandsFor p z → tree.get id_cmp p.blocks id ≡ Some b → state.count_of z id ≡ 0
+own_count p z id b s there = go (state.count_of z id) refl
   where
-    go : (o : Option ℕ) → get z.counts id ≡ o → unwrap_or o 0 ≡ 0
-    go None e = refl
-    go (Some n) e = absurd (own_not_escaped p z id b s.shows there (s.sound.counts id (subst IsSome (sym e) refl)))
+    go : (n : ℕ) → state.count_of z id ≡ n → n ≡ 0
+    go zero e = refl
+    go (suc n) e = absurd (own_not_escaped p z id b s.shows there (s.sound.names.counts id (omega (arith, e))))
 
 module _ (p : SoloZone) (z : State) (reg : ℕ) (id : BlockId) (b : LocalBlock) (s : StandsFor p z) (there : tree.get id_cmp p.blocks id ≡ Some b) where
   -- it isn't the option counts
   few_counts : (state.count_of z id == z.options.counts) ≡ false
-  few_counts = few z.options.counts (state.count_of z id) (own_count p z id b s there) s.sound.limit
+  few_counts = few z.options.counts (state.count_of z id) (own_count p z id b s there) (subst (λ (o : Options). 1 ≤ o.counts) (sym s.shows.part.options) s.limit)
     where
       few : (limit n : ℕ) → n ≡ 0 → 1 ≤ limit → (n == limit) ≡ false
       few limit n e h = grind (arith, nat_tests)
@@ -139,17 +67,6 @@ module _ (p : SoloZone) (z : State) (reg : ℕ) (id : BlockId) (b : LocalBlock) 
       ap (λ (m : FinMap id_cmp ℕ). cond (unwrap_or (get m id) 0 == h.options.counts) (Some misuse.CountFull) None) (sym stands.counts)
       ∙ ap (λ (o : Options). cond (state.count_of z id == o.counts) (Some misuse.CountFull) None) (sym stands.options)
       ∙ ap (λ b. cond b (Some misuse.CountFull) None) few_counts
-
--- a block with a count is there
-pub held_there : (p : SoloZone) (z : State) (id : BlockId) → StandsFor p z → take_misuse p.heap id ≡ None → IsThere z id
-held_there p z id s right = escaped_there z id (s.sound.counts id (subst (λ (m : FinMap id_cmp ℕ). IsSome (get m id)) (sym s.shows.heap.counts) (go (get p.heap.counts id) right)))
-  where
-    go : (o : Option ℕ) → cond (unwrap_or o 0 == 0) (Some misuse.NotHeld) None ≡ None → IsSome o
-    go None h = cc
-    go (Some n) h = refl
-
-pub taken_there : (p : SoloZone) (z : State) (id : BlockId) → StandsFor p z → take_misuse p.heap id ≡ None → (q : BlockId) → Some id ≡ Some q → IsThere z q
-taken_there p z id s right q is = subst (IsThere z) (some_one id q is) (held_there p z id s right)
 
 -- the room for an escape stays
 pub retain_room : (h : Shared) (a : Option BlockId) (room : ℕ) (r : Reply) → (after_retain h a room r).room ≡ h.room

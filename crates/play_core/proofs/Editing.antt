@@ -1,17 +1,14 @@
 -- Maps and lists of words after an edit
-use Rattle.std.proofs.Common.{◌≡◌, ℕ, ◌+◌, zero, suc, cond, List, [], ◌∷◌, length, Option, Some, None, slice_get, slice_set, refl, sym, ap, ◌∙◌, arith, ◌⊎◌, inl, inr}
+use Rattle.std.proofs.Common.{◌≡◌, ℕ, ◌+◌, cond, Option, Some, None, refl, sym, ap, ◌∙◌, arith}
 use Rattle.std.specs.Option.{option_map, option_map_or}
 use Rattle.std.specs.declared.cmp.Ordering.{Ordering}
 use Rattle.std.specs.declared.cmp.Ordering.TheVariants.{Less, Equal, Greater}
 use Rattle.std.specs.Ordering.{is_eq, eq_by_cmp}
 use Rattle.std.specs.Cmp.{IsTotalOrder, eq_by_cmp_equiv}
 use Rattle.std.specs.FinMap.{FinMap, get, insert, get-insert, IsAntisymmetric}
-use Rattle.az_base.specs.declared.word.Word.{Word}
-use Rattle.block_layouts.specs.declared.layout.Layout.{Layout}
-use Rattle.block_layouts.specs.Fitting.{FitsAt, Fits}
 use Rattle.zone_model.specs.Maps.{total}
-use Rattle.zone_model.proofs.MapLaws.{total-insert, at_value}
 use Rattle.zone_model.specs.State.{with_edit}
+use Rattle.zone_model.proofs.MapLaws.{total-insert, at_value}
 
 -- a map after an edit
 module _ {K X : Type 0} {R : K → K → Ordering} (o : IsTotalOrder R) (exact : IsAntisymmetric R) where

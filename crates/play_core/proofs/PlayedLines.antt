@@ -14,9 +14,9 @@ use Rattle.zone_model.specs.declared.act.Act.TheVariants as act
 use Rattle.zone_model.specs.declared.call.Call.{Call}
 use Rattle.zone_model.specs.declared.entry.Entry.{Entry}
 use Rattle.zone_model.specs.declared.entry.Stats.{Stats}
-use Rattle.zone_model.proofs.MapLaws.{total-empty}
 use Rattle.zone_model.specs.State.{Block, opening}
 use Rattle.zone_model.specs.History.{Matches}
+use Rattle.zone_model.proofs.MapLaws.{total-empty}
 use Rattle.zone_model.proofs.Runs.{matches_calls}
 use Rattle.heap_script.specs.declared.line.Line.{Line}
 use Rattle.heap_script.specs.declared.script.Script.{Script}

@@ -4,17 +4,20 @@ use Rattle.std.specs.Option.{option_map_or}
 use Rattle.std.specs.BTreeMap as tree
 use Rattle.az_base.specs.declared.block_id.BlockId.{BlockId}
 use Rattle.az_base.specs.declared.word.Word.TheVariants as word
-use Rattle.az_base.specs.Ids.{id_cmp, among}
+use Rattle.az_base.specs.Ids.{id_cmp, among, ids_total, exact_ids}
 use Rattle.block_layouts.specs.Layouts.{len_of, quanta}
 use Rattle.zone_model.specs.State.{State, Block}
 use Rattle.zone_model.specs.Reach.{Path}
 use Rattle.zone_model.specs.Quanta.{quanta_needed}
+use Rattle.zone_model.proofs.Sums.{total_split}
 use Rattle.play_core.specs.declared.planning.Search.{Search}
 use Rattle.play_core.specs.declared.zone.LocalBlock.{LocalBlock}
 use Rattle.play_core.specs.declared.zone.SoloZone.{SoloZone}
-use Rattle.play_core.specs.Planning.{Blocks, IsOwn, words_at, quanta_at, Refers, Walked, IsPlan, lengths_of, sum_of, IsLeft, Counts}
-use Rattle.play_core.specs.StandsFor.{Represents}
-use Rattle.play_core.proofs.Moving.{known_quanta, lengths_more, needed_sum, total_split}
+use Rattle.play_core.specs.Planning.{Blocks, Distinct, IsOwn, quanta_at, Refers, Walked, IsPlan, lengths_of, sum_of, IsLeft, Counts}
+use Rattle.play_core.specs.StandsFor.{Represents, seen}
+use Rattle.play_core.proofs.Parts.{in_the_state}
+use Rattle.play_core.proofs.Sums.{known_quanta, total_among}
+use Rattle.play_core.proofs.Walking.{lengths_more, own_there}
 
 -- the quanta of one block more
 sum_more : (m : Blocks) (ids : List BlockId) (id : BlockId) → sum_of m (ids ++ id ∷ []) ≡ sum_of m ids + quanta_at m id
@@ -52,7 +55,7 @@ refers_own m a b r = go (tree.get id_cmp m a) refl r.1
     go (Some k) is h = subst IsSome (sym is) refl
 
 -- what is reached from a planned block is planned
-stays_planned : (m : Blocks) (F : BlockId → Type 0) (ids : List BlockId) (a : BlockId) (steps : List BlockId) (q : BlockId) → IsPlan m F ids → (IsOwn m a → among ids a ≡ true) → Path (Refers m) a steps q → IsOwn m q → among ids q ≡ true
+pub stays_planned : (m : Blocks) (F : BlockId → Type 0) (ids : List BlockId) (a : BlockId) (steps : List BlockId) (q : BlockId) → IsPlan m F ids → (IsOwn m a → among ids a ≡ true) → Path (Refers m) a steps q → IsOwn m q → among ids q ≡ true
 stays_planned m F ids a [] q plan here path own = subst (λ x. among ids x ≡ true) path (here (subst (IsOwn m) (sym path) own))
 stays_planned m F ids a (b ∷ steps) q plan here path own = stays_planned m F ids b steps q plan (λ b_own. plan.closed a b (here (refers_own m a b path.0)) path.0 b_own) path.1 own
 
@@ -62,12 +65,16 @@ found_planned m F found ids w plan q h =
     let led = w.led q h in
     stays_planned m F ids led.0 led.2.0 q plan (plan.walked.begun led.0 led.1) led.2.1 (w.own q h)
 
+-- the quanta of listed blocks, in the state
+pub needed_sum : (p : SoloZone) (z : State) (ids : List BlockId) → Represents p z → Distinct ids → ((q : BlockId) → among ids q ≡ true → IsOwn p.blocks q) → quanta_needed z (among ids) ≡ sum_of p.blocks ids
+needed_sum p z ids s d own = total_among (λ k b. quanta (len_of b.layout)) z.blocks p.blocks ids d (λ q h. let b = own_there p.blocks q (own q h) in (seen b.0, in_the_state p z q b.0 s.part b.1, sym (known_quanta p.blocks q b.0 b.1)))
+
 -- and takes no more quanta
 pub found_less : (p : SoloZone) (z : State) (F : BlockId → Type 0) (found ids : List BlockId) → Represents p z → Walked p.blocks F found → IsPlan p.blocks F ids → sum_of p.blocks found ≤ sum_of p.blocks ids
 found_less p z F found ids s w plan =
     let part : quanta_needed z (among found) ≡ sum_of p.blocks found = needed_sum p z found s w.distinct w.own in
     let whole : quanta_needed z (among ids) ≡ sum_of p.blocks ids = needed_sum p z ids s plan.walked.distinct plan.walked.own in
-    let both = total_split _ (λ k (b : Block). cond (among found k) (quanta (len_of b.layout)) 0) (λ k (b : Block). cond (among ids k && not (among found k)) (quanta (len_of b.layout)) 0) z.blocks (λ k b. two (among ids k) (among found k) (quanta (len_of b.layout)) (found_planned p.blocks F found ids w plan k)) in
+    let both = total_split ids_total exact_ids _ (λ k (b : Block). cond (among found k) (quanta (len_of b.layout)) 0) (λ k (b : Block). cond (among ids k && not (among found k)) (quanta (len_of b.layout)) 0) z.blocks (λ k b is. two (among ids k) (among found k) (quanta (len_of b.layout)) (found_planned p.blocks F found ids w plan k)) in
     omega (arith, part, whole, both)
   where
     two : (s t : Bool) (n : ℕ) → (t ≡ true → s ≡ true) → cond s n 0 ≡ cond t n 0 + cond (s && not t) n 0

@@ -5,61 +5,19 @@ use Rattle.std.specs.Map.{lookup, remove_entry}
 use Rattle.std.specs.Option.{option_map_or}
 use Rattle.std.specs.BTreeMap as tree
 use Rattle.std.specs.BTreeMap.{is_at}
-use Rattle.std.specs.declared.cmp.Ordering.TheVariants.{Less, Equal, Greater}
-use Rattle.std.specs.Ordering.{is_eq}
-use Rattle.std.specs.Cmp.{eq_by_cmp_equiv, tied_itself}
 use Rattle.az_base.specs.declared.block_id.BlockId.{BlockId}
 use Rattle.az_base.specs.declared.word.Word.{Word}
 use Rattle.az_base.specs.declared.word.Word.TheVariants as word
-use Rattle.az_base.specs.Ids.{id_cmp, among, same_id, ids_total, exact_ids}
+use Rattle.az_base.specs.Ids.{id_cmp, among, same_id}
+use Rattle.az_base.proofs.Ids.{same_is, same_self, same_turned, among_more, among_cases, among_kept, among_last}
 use Rattle.zone_model.specs.State.{referent}
 use Rattle.zone_model.specs.Reach.{Path, Leads}
 use Rattle.play_core.specs.declared.zone.LocalBlock.{LocalBlock}
-use Rattle.play_core.specs.Planning.{Blocks, IsOwn, words_at, Refers, Visits, Distinct, Follows, IsFirst, Walked, IsPlan}
+use Rattle.play_core.specs.Planning.{Blocks, IsOwn, length_at, lengths_of, words_at, Refers, Visits, Distinct, Follows, IsFirst, Walked, IsPlan}
 
 pub one_of : (b : Bool) → (b ≡ true) ⊎ (b ≡ false)
 one_of true = inl refl
 one_of false = inr refl
-
-pub same_is : (a b : BlockId) → same_id a b ≡ true → a ≡ b
-same_is a b h =
-    elim (id_cmp a b) as (λ r. id_cmp a b ≡ r → is_eq r ≡ true → a ≡ b) [ Less ↦ λ e f. cc | Equal ↦ λ e f. exact_ids a b e | Greater ↦ λ e f. cc ] refl h
-
-pub same_self : (a : BlockId) → same_id a a ≡ true
-same_self a = ap is_eq (tied_itself ids_total a)
-
-pub same_turned : (a b : BlockId) → same_id a b ≡ same_id b a
-same_turned a b = (eq_by_cmp_equiv ids_total).symm a b
-
--- one more id at the end
-pub among_more : (ids : List BlockId) (id q : BlockId) → among (ids ++ id ∷ []) q ≡ (among ids q || same_id q id)
-among_more [] id q = or_false (same_id q id)
-  where
-    or_false : (b : Bool) → (b || false) ≡ b
-    or_false true = refl
-    or_false false = refl
-among_more (x ∷ ids) id q = ap (λ b. same_id q x || b) (among_more ids id q) ∙ grouped (same_id q x) (among ids q) (same_id q id)
-  where
-    grouped : (a b c : Bool) → (a || (b || c)) ≡ ((a || b) || c)
-    grouped true b c = refl
-    grouped false b c = refl
-
-pub among_cases : (ids : List BlockId) (id q : BlockId) → among (ids ++ id ∷ []) q ≡ true → (among ids q ≡ true) ⊎ (q ≡ id)
-among_cases ids id q h = go (among ids q) refl (sym (among_more ids id q) ∙ h)
-  where
-    go : (b : Bool) → among ids q ≡ b → (b || same_id q id) ≡ true → (among ids q ≡ true) ⊎ (q ≡ id)
-    go true e h = inl e
-    go false e h = inr (same_is q id h)
-
-pub among_kept : (ids : List BlockId) (id q : BlockId) → among ids q ≡ true → among (ids ++ id ∷ []) q ≡ true
-among_kept ids id q h = among_more ids id q ∙ ap (λ b. b || same_id q id) h
-
-pub among_last : (ids : List BlockId) (id : BlockId) → among (ids ++ id ∷ []) id ≡ true
-among_last ids id = among_more ids id id ∙ ap (λ b. among ids id || b) (same_self id) ∙ or_true (among ids id)
-  where
-    or_true : (b : Bool) → (b || true) ≡ true
-    or_true true = refl
-    or_true false = refl
 
 pub seen_more : (ids : List BlockId) (id q : BlockId) (was : Bool) → was ≡ among ids q → cond (is_at (id_cmp id) q) true was ≡ among (ids ++ id ∷ []) q
 seen_more ids id q was h = ap (cond (is_at (id_cmp id) q) true) h ∙ ap (λ b. cond b true (among ids q)) (same_turned id q) ∙ turned (same_id q id) (among ids q) ∙ sym (among_more ids id q)
@@ -374,3 +332,8 @@ some_plan m first second =
     let v = visited m [] first in
     let w = visited m v.0 second in
     walked_on m (IsFirst first second) w.0 (length m.entries) 0 (omega arith) (walked_both m first second v.0 w.0 v.1 w.1) (λ k a b l. absurd (omega (arith, l)))
+
+-- the lengths of one block more
+pub lengths_more : (m : Blocks) (ids : List BlockId) (id : BlockId) → lengths_of m (ids ++ id ∷ []) ≡ lengths_of m ids ++ length_at m id ∷ []
+lengths_more m [] id = refl
+lengths_more m (x ∷ ids) id = ap (λ l. length_at m x ∷ l) (lengths_more m ids id)

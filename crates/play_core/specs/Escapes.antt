@@ -1,5 +1,5 @@
 -- Blocks that escape together, as the zone takes them to the heap
-use Rattle.std.specs.Prelude.{◌≡◌, ◌<◌, ◌≤◌, ◌+◌, ℕ, Bool, true, not, List, ◌∷◌, Option, None, Some, IfSome, ◌⊎◌, if◌then◌else◌}
+use Rattle.std.specs.Prelude.{◌≡◌, ◌<◌, ◌≤◌, ◌+◌, ℕ, Bool, true, not, List, [], Option, None, Some, IfSome, ◌⊎◌, if◌then◌else◌}
 use Rattle.std.specs.BTreeMap as tree
 use Rattle.std.specs.BTreeMap.{is_at}
 use Rattle.std.specs.FinMap.{get}
@@ -14,11 +14,12 @@ use Rattle.block_layouts.specs.Fitting.{Fits}
 use Rattle.zone_model.specs.State.{State}
 use Rattle.zone_model.specs.Escape.{Tells, EscOf, with_escaped}
 use Rattle.zone_model.specs.Misuses.{is_overfull}
+use Rattle.zone_model.specs.Sound.{Knows}
 use Rattle.zone_model.specs.Quanta.{quanta_needed}
 use Rattle.play_core.specs.declared.zone.LocalBlock.{LocalBlock}
 use Rattle.play_core.specs.declared.zone.SoloZone.{SoloZone}
 use Rattle.play_core.specs.Planning.{IsOwn, Distinct, lengths_of, sum_of}
-use Rattle.play_core.specs.StandsFor.{StandsFor}
+use Rattle.play_core.specs.StandsFor.{Represents, StandsFor}
 
 -- the blocks may be moved to the heap one after another, which has room for them
 pub record CanMove (p : SoloZone) (ids : List BlockId) : Type 0 where
@@ -43,9 +44,14 @@ pub record Moves (p n : SoloZone) (id : BlockId) (b : LocalBlock) : Type 0 where
   pub used : used_by n.heap.blocks ≡ used_by p.heap.blocks + quanta (len_of b.layout)
   pub stands : (z : State) → Stands p.heap z → IsUnescaped z id b.layout b.words.items → Stands n.heap (with_escaped z (same_id id))
 
--- what the blocks lead to has escaped, or doesn't fit
+-- the thread knows the block, if there is one
+abbrev pub Known : State → ℕ → Option BlockId → Type 0
+Known z t v = (b : BlockId) → v ≡ Some b → Knows z t b
+
+-- what the blocks that the thread knows lead to has escaped, or doesn't fit
 abbrev pub Escapes : SoloZone → SoloZone → Option BlockId → Option BlockId → Bool → Type 0
-Escapes p n first second fit = (z : State) → StandsFor p z → (need : BlockId → Bool) × Tells need (λ c. EscOf z first c ⊎ EscOf z second c) × (is_overfull z (quanta_needed z need) ≡ not fit) × StandsFor n (if fit then with_escaped z need else z)
+Escapes p n first second fit = (z : State) → StandsFor p z → Known z p.thread first → Known z p.thread second
+    → (need : BlockId → Bool) × Tells need (λ c. EscOf z first c ⊎ EscOf z second c) × (is_overfull z (quanta_needed z need) ≡ not fit) × Represents n (if fit then with_escaped z need else z) × (n.heap.room ≡ [])
 
 -- the heap has room for one more count, for an association of the first block and for a weak location that shows the second
 pub record HasRoom (r : Ready) (first second : Option BlockId) : Type 0 where

@@ -1,5 +1,4 @@
 pub mod Registers
-pub mod Soundness
 pub mod StandsFor
 pub mod Births
 pub mod Words

@@ -1,48 +1,52 @@
 -- Which states of the definitions the zone stands for
-use Rattle.std.specs.Prelude.{◌≡◌, ◌≤◌, ℕ, Option, Some, None, false, [], if◌then◌else◌, is_none}
+use Rattle.std.specs.Prelude.{◌≡◌, ◌≤◌, true, false, [], None, Some}
 use Rattle.std.specs.Option.{option_map}
 use Rattle.std.specs.BTreeMap as tree
 use Rattle.std.specs.FinMap.{get}
 use Rattle.az_base.specs.declared.block_id.BlockId.{BlockId}
-use Rattle.az_base.specs.Ids.{id_cmp, id_of}
+use Rattle.az_base.specs.Ids.{id_cmp}
+use Rattle.block_layouts.specs.Fitting.{Fits}
 use Rattle.zone_model.specs.declared.call.Call.{Call}
 use Rattle.zone_model.specs.declared.call.Call.TheVariants as call
 use Rattle.zone_model.specs.declared.entry.Reply.{Reply}
 use Rattle.zone_model.specs.declared.entry.Stats.{Stats}
 use Rattle.zone_model.specs.State.{State, Block}
-use Rattle.zone_model.specs.Quanta.{own_quanta}
+use Rattle.zone_model.specs.Part.{Part, part_of}
+use Rattle.zone_model.specs.Phases.{Free}
+use Rattle.zone_model.specs.Quanta.{quanta_where}
+use Rattle.zone_model.specs.Sound.{Sound}
 use Rattle.zone_model.specs.Stats.{stats_of}
 use Rattle.zone_model.specs.Step.{Step}
 use Rattle.shared_heap.specs.Stands.{Stands}
 use Rattle.play_core.specs.declared.zone.LocalBlock.{LocalBlock}
 use Rattle.play_core.specs.declared.zone.SoloZone.{SoloZone}
 use Rattle.play_core.specs.Registers.{Hold}
-use Rattle.play_core.specs.Soundness.{IsSound}
 
 -- an unescaped block as the definitions have it
 abbrev pub seen : LocalBlock → Block
 seen b = record { layout = b.layout; words = b.words.items; actions = []; finalised = false; since = None }
 
--- the block, where it hasn't escaped
-abbrev pub unescaped : Option Block → Option Block
-unescaped None = None
-unescaped (Some b) = if is_none b.since then Some b else None
+-- what the zone keeps of its thread's own is this part, and the words of its blocks fit their layouts
+pub record HasPart (p : SoloZone) (part : Part) : Type 0 where
+  pub options : part.options ≡ p.options
+  pub registers : Hold p.registers part.registers
+  pub serials : part.serials ≡ p.serials
+  pub running : part.ended ≡ false
+  pub blocks : (id : BlockId) → get part.blocks id ≡ option_map seen (tree.get id_cmp p.blocks id)
+  pub own : quanta_where (λ id b. true) part.blocks ≡ p.own
+  pub fits : (id : BlockId) (b : LocalBlock) → tree.get id_cmp p.blocks id ≡ Some b → Fits b.layout b.words.items
 
--- the heap stands for the state, and the rest is what the state has of the thread, which hasn't ended
+-- the heap stands for the state, and the rest is the thread's part of it
 pub record Represents (p : SoloZone) (z : State) : Type 0 where
   pub heap : Stands p.heap z
-  pub options : z.options ≡ p.options
-  pub blocks : (id : BlockId) → unescaped (get z.blocks id) ≡ option_map seen (tree.get id_cmp p.blocks id)
-  pub registers : Hold p.registers (z.registers p.thread)
-  pub serials : z.serials p.thread ≡ p.serials
-  pub fresh : (s : ℕ) → p.serials ≤ s → get z.blocks (id_of p.thread s) ≡ None
-  pub own : own_quanta z p.thread ≡ p.own
-  pub running : z.ended p.thread ≡ false
+  pub part : HasPart p (part_of z p.thread)
 
--- a sound state that the zone shows, with no room left over from an escape
+-- a sound state that the zone represents, where the thread has no cycle open, and no room is left over from an escape
 pub record StandsFor (p : SoloZone) (z : State) : Type 0 where
   pub shows : Represents p z
-  pub sound : IsSound p.thread z
+  pub sound : Sound z
+  pub free : Free z p.thread
+  pub limit : 1 ≤ p.options.counts
   pub room : p.heap.room ≡ []
 
 -- the zone stands for some state

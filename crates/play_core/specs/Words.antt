@@ -35,8 +35,8 @@ FindsWord p id at class (Ok found) = HasWord p.blocks id at class found
 FindsWord p id at class (Err m) = (b : LocalBlock) × (tree.get id_cmp p.blocks id ≡ Some b) × (class_misuse class (class_at b.layout at) ≡ Some m)
 
 -- the block with another word at the place
-abbrev pub put_word : ℕ → Word → Block → Block
-put_word at w b = record b { words = slice_set b.words at w }
+abbrev pub rewritten : ℕ → Word → Block → Block
+rewritten at w b = record b { words = slice_set b.words at w }
 
 -- nothing but a word of an unescaped block has changed
 pub record SetsWord (old new : SoloZone) (id : BlockId) (at : ℕ) (w : Word) : Type 0 where
@@ -46,4 +46,4 @@ pub record SetsWord (old new : SoloZone) (id : BlockId) (at : ℕ) (w : Word) : 
   pub own : new.own ≡ old.own
   pub serials : new.serials ≡ old.serials
   pub heap : new.heap ≡ old.heap
-  pub blocks : (q : BlockId) → option_map seen (tree.get id_cmp new.blocks q) ≡ option_map (λ b. if is_at (id_cmp id) q then put_word at w b else b) (option_map seen (tree.get id_cmp old.blocks q))
+  pub blocks : (q : BlockId) → option_map seen (tree.get id_cmp new.blocks q) ≡ option_map (λ b. if is_at (id_cmp id) q then rewritten at w b else b) (option_map seen (tree.get id_cmp old.blocks q))

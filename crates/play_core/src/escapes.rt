@@ -6,7 +6,6 @@ ghost use Rattle.shared_heap.specs.Shared.{used_by};
 ghost use Rattle.zone_model.specs.State.{State};
 ghost use Rattle.zone_model.specs.Escape.{with_escaped};
 ghost use Rattle.play_core.specs.declared.zone.LocalBlock.{LocalBlock as ALocalBlock};
-ghost use Rattle.play_core.specs.Soundness.{IsSound};
 ghost use Rattle.play_core.specs.StandsFor.{IsReal, StandsAsBefore, Represents};
 ghost use Rattle.play_core.specs.Escapes.{CanMove, Moves, Escapes, HasRoom};
 
@@ -31,7 +30,7 @@ fn move_one(zone: &mut SoloZone, id: BlockId)
 /// The blocks are moved to the heap.
 fn move_all(zone: &mut SoloZone, ids: &[BlockId])
     requires { CanMove zone.old ids.now }
-    ensures shows { (z : State) → Represents zone.old z → IsSound zone.old.thread z → Represents zone.new (with_escaped z (among ids.now)) }
+    ensures shows { (z : State) → Represents zone.old z → Represents zone.new (with_escaped z (among ids.now)) }
     ensures thread { zone.new.thread ≡ zone.old.thread }
     ensures fits { used_by zone.new.heap.blocks ≤ zone.new.heap.options.heap_quanta }
     ensures ready { zone.new.heap.ready ≡ zone.old.heap.ready }

@@ -1,13 +1,16 @@
 use Rattle.std.proofs.Common.{refl, sym, ap, ◌∙◌}
-use Rattle.play_core.proofs.Answered.{heard, read_room}
-use Rattle.play_core.proofs.Associations.{assoc_says, value_out}
-use Rattle.play_core.proofs.Changes.{escaped_there}
+use Rattle.zone_model.specs.declared.call.Call.TheVariants as call
+use Rattle.zone_model.specs.Part.{part_of}
+use Rattle.play_core.proofs.Rooms.{read_room}
+use Rattle.play_core.proofs.Stepping.{answered}
+use Rattle.play_core.proofs.Heard.{part_reads, assoc_goes}
 use Rattle.play_core.proofs.assocs.get_assoc.Goals as goal
 
 pub returns-clause-ok : goal.returns-clause-ok
 returns-clause-ok c = λ z s.
     let p = c.args.zone.now in
-    heard p _ z _ _ c.args.to _ c.in_ok-reply.reply s record { none = λ id n. n; never = λ n. n; right = λ m mid e. e } (c.in_ok-reply.ensures.reply ∙ assoc_says p.heap c.get-id.result c.args.key.0)
-    (λ mid e. e.1) (λ mid e _ id is. escaped_there z id (value_out p.thread z (z.registers p.thread c.args.object) c.args.key.0 _ s.sound e.0 id is))
-    record { thread = refl; options = refl; blocks = refl; own = refl; serials = refl } c.receive.ensures (ap (λ h. h.room) c.in_ok-reply.ensures.value ∙ read_room p.heap p.thread c.in_ok-reply.reply ∙ s.room)
-    (c.in_ok-reply.ensures.step z c.args.to c.args.object record { stands = s.shows.heap; running = s.shows.running } (sym (c.get-id.ensures _ s.shows.registers)))
+    let r = c.in_ok-reply.reply in
+    let the_call = call.GetAssoc c.args.to c.args.object c.args.key in
+    answered p _ z the_call r s record { thread = refl; options = refl; room = ap (λ h. h.room) c.in_ok-reply.ensures.value ∙ read_room p.heap p.thread r ∙ s.room } record { none = λ id n. n; cycle = refl }
+    (part_reads p _ (part_of z p.thread) the_call c.args.to r s.shows.part record { options = refl; blocks = refl; own = refl; serials = refl } (assoc_goes (part_of z p.thread) c.args.to c.args.object c.args.key r) c.receive.ensures)
+    (c.in_ok-reply.ensures.step z c.args.to c.args.object record { stands = s.shows.heap; running = s.shows.part.running } (sym (c.get-id.ensures _ s.shows.part.registers)))

@@ -1,12 +1,16 @@
 use Rattle.std.proofs.Common.{refl, ap, ◌∙◌}
-use Rattle.play_core.proofs.Answered.{heard, read_room}
-use Rattle.play_core.proofs.Counting.{taken_there}
+use Rattle.zone_model.specs.declared.call.Call.TheVariants as call
+use Rattle.zone_model.specs.Part.{part_of}
+use Rattle.play_core.proofs.Rooms.{read_room}
+use Rattle.play_core.proofs.Stepping.{answered}
+use Rattle.play_core.proofs.Heard.{part_reads, take_goes}
 use Rattle.play_core.proofs.counts.take.Goals as goal
 
 pub returns-clause-ok : goal.returns-clause-ok
 returns-clause-ok c = λ z s.
     let p = c.args.zone.now in
-    heard p _ z _ _ c.args.to _ c.in_ok-reply.reply s record { none = λ id n. n; never = λ n. n; right = λ m mid e. e } c.in_ok-reply.ensures.reply
-    (λ mid e. e.1) (λ mid e right q is. taken_there p z c.args.id s right q is)
-    record { thread = refl; options = refl; blocks = refl; own = refl; serials = refl } c.receive.ensures (ap (λ h. h.room) c.in_ok-reply.ensures.value ∙ read_room p.heap p.thread c.in_ok-reply.reply ∙ s.room)
-    (c.in_ok-reply.ensures.step z c.args.to record { stands = s.shows.heap; running = s.shows.running })
+    let r = c.in_ok-reply.reply in
+    let the_call = call.Take c.args.to c.args.id in
+    answered p _ z the_call r s record { thread = refl; options = refl; room = ap (λ h. h.room) c.in_ok-reply.ensures.value ∙ read_room p.heap p.thread r ∙ s.room } record { none = λ id n. n; cycle = refl }
+    (part_reads p _ (part_of z p.thread) the_call c.args.to r s.shows.part record { options = refl; blocks = refl; own = refl; serials = refl } (take_goes (part_of z p.thread) c.args.to c.args.id r) c.receive.ensures)
+    (c.in_ok-reply.ensures.step z c.args.to record { stands = s.shows.heap; running = s.shows.part.running })

@@ -1,4 +1,4 @@
-use Rattle.std.proofs.Common.{◌+◌, arith, IsSome, drop, take, length, sym, ap, subst, ◌∙◌, refl}
+use Rattle.std.proofs.Common.{◌+◌, arith, drop, take, length, ap, subst, ◌∙◌, refl}
 use Rattle.std.proofs.lemmas.Option.{slice_get_read}
 use Rattle.az_base.specs.Ids.{among}
 use Rattle.shared_heap.specs.Shared.{Shared}
@@ -6,12 +6,11 @@ use Rattle.zone_model.specs.Escape.{with_escaped}
 use Rattle.zone_model.proofs.Steps.{none_escaped}
 use Rattle.play_core.specs.StandsFor.{Represents}
 use Rattle.play_core.specs.Escapes.{CanMove}
-use Rattle.play_core.proofs.Moving.{block_there, can_rest, shows_move, escaped_more, next_taken, next_left, all_taken}
-use Rattle.play_core.proofs.Escaping.{there_was}
+use Rattle.play_core.proofs.Moving.{can_rest, shows_move, escaped_more, next_taken, next_left, all_taken}
 use Rattle.play_core.proofs.escapes.move_all.Goals as goal
 
 pub loop-id-init : goal.loop-id-init
-loop-id-init c = record { rest = c.requires; shows = λ z s sound. rw (none_escaped z) s; thread = refl; ready = refl }
+loop-id-init c = record { rest = c.requires; shows = λ z s. rw (none_escaped z) s; thread = refl; ready = refl }
 
 pub move_one-requires : goal.move_one-requires
 move_one-requires c =
@@ -33,11 +32,9 @@ loop-id-preserved c =
     let at = slice_get_read ids (length ids) i id refl c.loop-id-test.true c.id-item.is in
     record {
       rest = can_rest p n id (drop (i + 1) ids) b (subst (CanMove p) (next_left ids i id at) c.loop-id.invariant.rest) moves;
-      shows = λ z s sound.
+      shows = λ z s.
           let y = with_escaped z (among (take i ids)) in
-          let shows = c.loop-id.invariant.shows z s sound in
-          let mine = sound.made id (there_was z (among (take i ids)) id (subst IsSome (sym (block_there p y id b shows moves.was)) refl)) ∙ sym c.loop-id.invariant.thread in
-          subst (Represents n) (escaped_more z (take i ids) id ∙ ap (λ l. with_escaped z (among l)) (next_taken ids i id at)) (shows_move p n y id b shows moves mine);
+          subst (Represents n) (escaped_more z (take i ids) id ∙ ap (λ l. with_escaped z (among l)) (next_taken ids i id at)) (shows_move p n y id b (c.loop-id.invariant.shows z s) moves);
       thread = moves.thread ∙ c.loop-id.invariant.thread;
       ready = ap (λ (h : Shared). h.ready) moves.heap ∙ c.loop-id.invariant.ready;
     }
@@ -46,4 +43,4 @@ pub returns-clause-fits : goal.returns-clause-fits
 returns-clause-fits c = omega (arith, c.loop-id.invariant.rest.fits)
 
 pub returns-clause-shows : goal.returns-clause-shows
-returns-clause-shows c = λ z s sound. subst (λ ids. Represents c.loop-id.zone (with_escaped z (among ids))) (all_taken c.args.ids.now c.loop-id.id-index c.loop-id-test.false) (c.loop-id.invariant.shows z s sound)
+returns-clause-shows c = λ z s. subst (λ ids. Represents c.loop-id.zone (with_escaped z (among ids))) (all_taken c.args.ids.now c.loop-id.id-index c.loop-id-test.false) (c.loop-id.invariant.shows z s)

@@ -1,5 +1,7 @@
-use Rattle.std.proofs.Common.{refl, sym}
-use Rattle.zone_model.proofs.Steps.{step_plain, unseen}
+use Rattle.std.proofs.Common.{refl}
+use Rattle.zone_model.specs.declared.call.Call.TheVariants as call
+use Rattle.zone_model.specs.declared.entry.Reply.TheVariants as reply
+use Rattle.play_core.proofs.Stepping.{apart, seen_same}
 use Rattle.play_core.proofs.playing.step.Goals as goal
 
 pub returns-in-Load-clause-ok : goal.returns-in-Load-clause-ok
@@ -21,7 +23,7 @@ pub returns-in-GetRoot-clause-ok : goal.returns-in-GetRoot-clause-ok
 returns-in-GetRoot-clause-ok c = rw c.in-GetRoot.is c.get_root.ensures.ok
 
 pub returns-in-Stats-clause-ok : goal.returns-in-Stats-clause-ok
-returns-in-Stats-clause-ok c = rw c.in-Stats.is (λ z s. (z, step_plain z _ z s.shows.running (λ id n. n) refl (z, (c.stats.ensures z s, refl), sym (unseen z s.shows.heap.cycle)), s))
+returns-in-Stats-clause-ok c = rw c.in-Stats.is (λ z s. let p = c.args.zone.now in apart p p z z call.Stats (reply.Stats c.stats.result) s record { thread = refl; options = refl; room = s.room } refl record { none = λ id n. n; cycle = refl } refl (z, (c.stats.ensures z s, refl), refl) (seen_same z) s.shows.part)
 
 pub returns-in-Store-clause-ok : goal.returns-in-Store-clause-ok
 returns-in-Store-clause-ok c = rw c.in-Store.is c.store.ensures.ok

@@ -1,16 +1,16 @@
-use Rattle.std.proofs.Common.{refl, sym, None}
-use Rattle.zone_model.specs.State.{with_register}
-use Rattle.zone_model.proofs.Steps.{step_plain, unseen}
-use Rattle.shared_heap.proofs.Standing.{register_stands}
-use Rattle.play_core.proofs.Changes.{registered}
+use Rattle.std.proofs.Common.{None, refl}
+use Rattle.zone_model.specs.declared.call.Call.TheVariants as call
+use Rattle.zone_model.specs.declared.entry.Reply.TheVariants as reply
+use Rattle.zone_model.specs.Part.{part_of}
+use Rattle.play_core.proofs.Naming.{local_done}
+use Rattle.play_core.proofs.Parts.{part_given}
+use Rattle.play_core.proofs.Stepping.{alone}
 use Rattle.play_core.proofs.registers.drop_reg.Goals as goal
 
 pub returns-clause-step : goal.returns-clause-step
 returns-clause-step c = λ z s.
     let p = c.args.zone.now in
-    let after = with_register z p.thread c.args.reg None in (
-      after,
-      step_plain z _ after s.shows.running (λ id n. n) refl (after, refl, sym (unseen after s.shows.heap.cycle)),
-      registered p _ z c.args.reg None s record { thread = refl; options = refl; blocks = refl; own = refl; serials = refl } c.set.ensures (register_stands p.heap z p.thread c.args.reg None s.shows.heap) s.room
-          (λ b is. cc),
-    )
+    let part = part_of z p.thread in
+    alone p _ z (call.DropReg c.args.reg) reply.Done _ s record { thread = refl; options = refl; room = s.room } refl refl
+    (local_done part p.thread (call.DropReg c.args.reg) reply.Done s.shows.part.running refl refl tt)
+    (part_given p _ part s.shows.part record { options = refl; blocks = refl; own = refl; serials = refl } c.args.reg None None refl c.set.ensures)

@@ -1,12 +1,16 @@
-use Rattle.std.proofs.Common.{None, refl, sym, ap, ◌∙◌}
-use Rattle.play_core.proofs.Answered.{heard, read_room}
-use Rattle.play_core.proofs.Changes.{escaped_there}
+use Rattle.std.proofs.Common.{refl, ap, ◌∙◌}
+use Rattle.zone_model.specs.declared.call.Call.TheVariants as call
+use Rattle.zone_model.specs.Part.{part_of}
+use Rattle.play_core.proofs.Rooms.{read_room}
+use Rattle.play_core.proofs.Stepping.{answered}
+use Rattle.play_core.proofs.Heard.{part_reads, root_goes}
 use Rattle.play_core.proofs.roots.get_root.Goals as goal
 
 pub returns-clause-ok : goal.returns-clause-ok
 returns-clause-ok c = λ z s.
     let p = c.args.zone.now in
-    heard p _ z _ None c.args.to _ c.in_ok-reply.reply s record { none = λ id n. n; never = λ n. n; right = λ m mid e. e } c.in_ok-reply.ensures.reply
-    (λ mid e. e.1) (λ mid e _ id is. escaped_there z id (s.sound.roots c.args.root.0 id (sym e.0 ∙ is)))
-    record { thread = refl; options = refl; blocks = refl; own = refl; serials = refl } c.receive.ensures (ap (λ h. h.room) c.in_ok-reply.ensures.value ∙ read_room p.heap p.thread c.in_ok-reply.reply ∙ s.room)
-    (c.in_ok-reply.ensures.step z c.args.to record { stands = s.shows.heap; running = s.shows.running })
+    let r = c.in_ok-reply.reply in
+    let the_call = call.GetRoot c.args.to c.args.root in
+    answered p _ z the_call r s record { thread = refl; options = refl; room = ap (λ h. h.room) c.in_ok-reply.ensures.value ∙ read_room p.heap p.thread r ∙ s.room } record { none = λ id n. n; cycle = refl }
+    (part_reads p _ (part_of z p.thread) the_call c.args.to r s.shows.part record { options = refl; blocks = refl; own = refl; serials = refl } (root_goes (part_of z p.thread) c.args.to c.args.root r) c.receive.ensures)
+    (c.in_ok-reply.ensures.step z c.args.to record { stands = s.shows.heap; running = s.shows.part.running })

@@ -1,7 +1,7 @@
 use Rattle.std.proofs.Common.{refl, ap, sym, is_some, rules}
 use Rattle.std.specs.Vec.{with_item}
 use Rattle.play_core.specs.declared.zone.LocalBlock.{LocalBlock}
-use Rattle.play_core.proofs.Changes.{shown_set}
+use Rattle.play_core.proofs.Trees.{shown_set}
 use Rattle.play_core.proofs.words.set_word.Goals as goal
 
 pub returns : goal.returns
