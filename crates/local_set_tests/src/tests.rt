@@ -225,6 +225,37 @@ fn escaped_blocks_are_counted_and_left_alone(rt: HostRuntime) -> Result<(), Fail
     Ok(())
 }
 
+/// Whether a block is collected once its last reference, in register 0, was overwritten by a block that came from the
+/// heap, which stays.
+fn receives_over_the_last(alloc: Global, local: &mut Local, other: &BlockId, reg: Reg) -> bool
+    requires { local.old.ended ≡ false }
+    ensures { local.new.ended ≡ false }
+{
+    let held = [
+        (Scanned(1, 1), Block(0)),
+        (Copy(0, 1), Done),
+        (Drop(1), Done),
+        (Collect, Gone(&[])),
+    ];
+    if !are_answered(alloc, local, &held) {
+        return false;
+    }
+    local.receive(reg, Some(*other));
+    are_answered(alloc, local, &[(Collect, Gone(&[0])), (Collect, Gone(&[]))])
+        && local.outs(*other) == 1
+}
+
+#[test]
+fn a_received_block_over_the_last_reference_frees_it(rt: HostRuntime) -> Result<(), Fail> {
+    let thread = ThreadNo::new(1).expect(&rt, "a thread");
+    let reg = Reg::new(0).expect(&rt, "a register");
+    let other = &foreign(ThreadNo::new(2).expect(&rt, "a thread"));
+    let mut local = Local::new(rt.alloc(), thread, Options::usual());
+    let freed = receives_over_the_last(rt.alloc(), &mut local, other, reg);
+    assert!(rt; freed);
+    Ok(())
+}
+
 /// Three blocks in a row, each of which refers to the next.
 fn builds_a_row(alloc: Global, local: &mut Local) -> bool
     requires { local.old.ended ≡ false }
