@@ -8,6 +8,7 @@ use Rattle.std.specs.declared.cmp.Ordering.TheVariants.{Less, Equal, Greater}
 use Rattle.std.specs.Ordering.{is_eq}
 use Rattle.az_base.specs.declared.block_id.BlockId.{BlockId}
 use Rattle.az_base.specs.Ids.{id_cmp, among, same_id, ids_total, exact_ids}
+use Rattle.az_base.proofs.Ids.{among_more, same_self, same_turned}
 use Rattle.block_layouts.specs.Layouts.{len_of, quanta}
 use Rattle.zone_model.specs.Part.{part_of}
 use Rattle.zone_model.specs.State.{State, Block}
@@ -23,7 +24,6 @@ use Rattle.play_core.specs.Planning.{Blocks, length_at, quanta_at, lengths_of, s
 use Rattle.play_core.specs.Escapes.{CanMove, Moves}
 use Rattle.play_core.proofs.Parts.{in_the_state, part_moved}
 use Rattle.play_core.proofs.Sums.{known_quanta}
-use Rattle.az_base.proofs.Ids.{among_more, same_self, same_turned}
 use Rattle.play_core.proofs.Walking.{own_there}
 
 -- the first of the blocks may be moved

@@ -8,6 +8,7 @@ use Rattle.std.specs.declared.cmp.Ordering.TheVariants.{Less, Equal, Greater}
 use Rattle.std.specs.Ordering.{is_eq}
 use Rattle.az_base.specs.declared.block_id.BlockId.{BlockId}
 use Rattle.az_base.specs.Ids.{id_cmp, among, same_id, ids_total, exact_ids}
+use Rattle.az_base.proofs.Ids.{same_is, same_self}
 use Rattle.block_layouts.specs.Layouts.{len_of, quanta}
 use Rattle.zone_model.specs.Maps.{total}
 use Rattle.zone_model.specs.Part.{Part}
@@ -19,7 +20,6 @@ use Rattle.play_core.specs.declared.zone.LocalBlock.{LocalBlock}
 use Rattle.play_core.specs.declared.zone.SoloZone.{SoloZone}
 use Rattle.play_core.specs.Planning.{Blocks, IsOwn, quanta_at, Distinct, sum_of}
 use Rattle.play_core.specs.StandsFor.{HasPart, seen}
-use Rattle.az_base.proofs.Ids.{same_is, same_self}
 use Rattle.play_core.proofs.Walking.{own_there}
 
 -- the quanta of a block of the map
