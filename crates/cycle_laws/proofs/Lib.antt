@@ -1,0 +1,3 @@
+mod Finished
+mod Reaching
+mod Settled
