@@ -100,3 +100,12 @@ module _ (g : GateShown) where
       subst (λ u. entries_of u list ≡ written t (items l)) h.0.thread (own 0 s (omega arith) ∙ h.0.own),
       left_lines ts ls ss list h.1 (λ k d m. own (suc k) d (omega (arith, m))),
     )
+
+-- where each thread's lines are the same numbers, so are its entries
+pub same_lines : {A : Type 0} (items : A → List ℕ) (numbers : List ℕ) (ts : List ℕ) (ls : List A) (list : List Entry) → length ls ≡ length ts
+    → All (λ l. items l ≡ numbers) ls → HoldsLines items ts ls list → All (λ t. entries_of t list ≡ written t numbers) ts
+same_lines items numbers [] ls list long same holds k d m = absurd (omega (arith, m))
+same_lines items numbers (t ∷ ts) [] list long same holds k d m = cc (long)
+same_lines items numbers (t ∷ ts) (l ∷ ls) list long same holds zero d m = holds.0 ∙ ap (written t) (same 0 l (omega arith))
+same_lines items numbers (t ∷ ts) (l ∷ ls) list long same holds (suc k) d m =
+    same_lines items numbers ts ls list (omega (arith, long)) (λ j e h. same (suc j) e (omega (arith, h))) holds.1 k d (omega (arith, m))

@@ -1,5 +1,5 @@
 -- What workers leave
-use Rattle.std.specs.Prelude.{◌≡◌, ⊤, ℕ, List, [], ◌∷◌, ◌++◌, Result, Ok, Err, map}
+use Rattle.std.specs.Prelude.{◌≡◌, ⊤, ℕ, zero, suc, List, [], ◌∷◌, ◌++◌, Result, Ok, Err, map}
 use Rattle.zone_model.specs.declared.call.Call.TheVariants as call
 use Rattle.zone_model.specs.declared.entry.Reply.TheVariants as reply
 use Rattle.zone_model.specs.declared.entry.Entry.{Entry}
@@ -10,6 +10,11 @@ use Rattle.gate_workers.specs.declared.worker.Job.{Job}
 -- the entries of a thread that writes these lines
 abbrev pub written : ℕ → List ℕ → List Entry
 written t lines = map (λ n. record { thread = t; call = call.Stats; reply = reply.Number n }) lines
+
+-- the numbers 1 to `n`
+abbrev pub first_numbers : ℕ → List ℕ
+first_numbers zero = []
+first_numbers (suc n) = first_numbers n ++ suc n ∷ []
 
 -- what a worker leaves of its job: the seat, with the lines behind its own entries
 abbrev pub Does : {E : Type 0} → GateShown → Job → Result SeatShown E → Type 0

@@ -1,5 +1,9 @@
 //! A crew: the first threads, each with as many lines.
-ghost use Rattle.std.specs.Prelude.{◌≡◌, ◌<◌, ◌≤◌, AllPairs, IfOk, vec_len};
+ghost use Rattle.std.specs.Prelude.{◌≡◌, ◌<◌, ◌≤◌, All, AllPairs, Contains, IfOk, map, vec_len};
+ghost use Rattle.az_base.specs.OptionRanges.{usual_options};
+ghost use Rattle.gate_workers.specs.Workers.{first_numbers, written};
+ghost use Rattle.zone_model.specs.Bare.{bare_entry};
+ghost use Rattle.zone_model.specs.History.{entries_of};
 ghost use Rattle.zone_gate.specs.Owning.{most_threads};
 
 use crate::diary::Diary;
@@ -12,6 +16,7 @@ use std::thread::Threads;
 /// The threads 1 to `count`.
 pub fn first_threads(alloc: Global, count: u32) -> Result<Vec<ThreadNo>, NoMemory>
     requires { count ≤ most_threads }
+    ensures threads { IfOk result (λ v. v.items ≡ first_numbers count) }
     ensures count { IfOk result (λ v. vec_len v ≡ count) }
     ensures ascending { IfOk result (λ v. AllPairs (λ t u. t < u) v.items) }
 {
@@ -28,7 +33,9 @@ pub fn first_threads(alloc: Global, count: u32) -> Result<Vec<ThreadNo>, NoMemor
 }
 
 /// The numbers 1 to `last`.
-pub fn numbers(alloc: Global, last: u32) -> Result<Vec<u64>, NoMemory> {
+pub fn numbers(alloc: Global, last: u32) -> Result<Vec<u64>, NoMemory>
+    ensures { IfOk result (λ v. v.items ≡ first_numbers last) }
+{
     let mut numbers = Vec::new(alloc);
     for n in 0..last {
         let Ok(()) = numbers.push(n as u64 + 1) else {
@@ -40,7 +47,8 @@ pub fn numbers(alloc: Global, last: u32) -> Result<Vec<u64>, NoMemory> {
 
 /// For each of `count` threads the numbers 1 to `last` as its lines.
 pub fn lines_for(alloc: Global, count: u32, last: u32) -> Result<Vec<Vec<u64>>, NoMemory>
-    ensures { IfOk result (λ v. vec_len v ≡ count) }
+    ensures count { IfOk result (λ v. vec_len v ≡ count) }
+    ensures each { IfOk result (λ v. All (λ l. l.items ≡ first_numbers last) v.items) }
 {
     let mut lines = Vec::new(alloc);
     for _n in 0..count {
@@ -60,6 +68,9 @@ pub fn run_crew<R: Threads + Wait + Sync>(
     last: u32,
 ) -> Result<Diary, NoMemory>
     requires { (0 < count) × (count ≤ most_threads) }
+    ensures options { IfOk result (λ d. d.options ≡ usual_options) }
+    ensures lines { IfOk result (λ d. All (λ t. entries_of t (map bare_entry d.entries.items) ≡ written t (first_numbers last)) (first_numbers count)) }
+    ensures others { IfOk result (λ d. All (λ e. Contains (first_numbers count) e.thread) (map bare_entry d.entries.items)) }
 {
     let threads = first_threads(alloc, count)?;
     let lines = lines_for(alloc, count, last)?;

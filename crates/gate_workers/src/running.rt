@@ -78,6 +78,7 @@ pub fn run<R: Threads + Wait + Sync>(
     requires some { 0 < length threads.now }
     requires ascending { AllPairs (λ t u. t < u) threads.now }
     requires each { vec_len lines ≡ length threads.now }
+    ensures options { IfOk result (λ d. d.options ≡ options) }
     ensures lines { IfOk result (λ d. HoldsLines (λ l. l.items) threads.now lines.items (map bare_entry d.entries.items)) }
     ensures others { IfOk result (λ d. All (λ e. Contains threads.now e.thread) (map bare_entry d.entries.items)) }
 {

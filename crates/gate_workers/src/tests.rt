@@ -122,6 +122,19 @@ fn two_seats_in_turn(rt: HostRuntime) -> Result<(), Fail> {
 }
 
 #[test]
+fn the_options_asked_for(rt: HostRuntime) -> Result<(), Fail> {
+    let options = Options {
+        pending: 7,
+        ..Options::usual()
+    };
+    let threads = first_threads(rt.alloc(), 2).expect(&rt, "memory");
+    let lines = lines_for(rt.alloc(), 2, 1).expect(&rt, "memory");
+    let diary = run(&rt, rt.alloc(), options, threads.as_slice(), lines).expect(&rt, "memory");
+    assert!(rt; diary.options.pending == 7);
+    Ok(())
+}
+
+#[test]
 fn one_seat(rt: HostRuntime) -> Result<(), Fail> {
     let diary = run_crew(&rt, rt.alloc(), 1, 3).expect(&rt, "memory");
     assert!(rt; are_entries(diary.entries(), &[(1, 1), (1, 2), (1, 3)]));
