@@ -153,6 +153,18 @@ impl Blocks {
         block.words()
     }
 
+    /// The layout and the words of a block.
+    pub fn block(&self, id: BlockId) -> (&Layout, &[Word])
+        requires { contains_key (blocks_of self.now.list) id ≡ true }
+        ensures layout { option_map (λ b. b.layout) (get (blocks_of self.now.list) id) ≡ Some result.0.now }
+        ensures words { option_map (λ b. b.words) (get (blocks_of self.now.list) id) ≡ Some result.1.now }
+    {
+        let Some(block) = self.stored.get(&id) else {
+            unreachable!()
+        };
+        (block.layout(), block.words())
+    }
+
     /// A Plain word gets a number. O(1) expected; it takes no memory.
     pub fn put(&mut self, id: BlockId, at: u32, number: u64)
         requires { MayHold self.old.list id at (word.Number number) }

@@ -183,6 +183,15 @@ impl Local {
         self.blocks.word(id, at)
     }
 
+    /// The layout and the words of an unescaped block of this thread. O(1) expected.
+    pub fn block_of(&self, id: BlockId) -> (&Layout, &[Word])
+        requires { is_in (part_in self.now) id ≡ true }
+        ensures layout { option_map (λ b. b.layout) (get (part_in self.now).blocks id) ≡ Some result.0.now }
+        ensures words { option_map (λ b. b.words) (get (part_in self.now).blocks id) ≡ Some result.1.now }
+    {
+        self.blocks.block(id)
+    }
+
     /// In how many registers and words of unescaped blocks the block stands. O(1) expected.
     pub fn outs(&self, id: BlockId) -> u32
         ensures { result ≡ outs (part_in self.now) id }
