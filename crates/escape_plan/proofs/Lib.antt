@@ -1,0 +1,9 @@
+pub mod Searching
+pub mod Sums
+pub mod Sorting
+pub mod Reaching
+pub mod Counting
+pub mod Telling
+pub mod Moving
+pub mod Belonging
+pub mod Deciding

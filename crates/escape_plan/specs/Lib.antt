@@ -1,0 +1,5 @@
+pub mod Together
+pub mod Escapes
+pub mod Planning
+pub mod Searching
+pub mod Moving
