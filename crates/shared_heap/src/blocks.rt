@@ -7,7 +7,7 @@ ghost use Rattle.zone_model.specs.State.{with_edit};
 ghost use Rattle.shared_heap.specs.Holds.{times, with_times};
 ghost use Rattle.block_layouts.specs.Fitting.{FitsAt, Fits};
 
-use crate::stored::Stored;
+use crate::stored::EscapedBlock;
 use az_base::{BlockId, Class, NoMemory, ThreadNo, Word};
 use std::alloc::Global;
 use std::collections::HashMap;
@@ -16,7 +16,7 @@ use std::marker::Model;
 /// The escaped blocks by id.
 #[derive(Drop)]
 pub struct Blocks {
-    stored: HashMap<BlockId, Stored>,
+    stored: HashMap<BlockId, EscapedBlock>,
 }
 
 impl Model for Blocks {
@@ -49,10 +49,8 @@ impl Blocks {
         ensures room { OnOk result (n ≤ self.new.spare) }
         ensures grows { self.old.spare ≤ self.new.spare }
     {
-        match self.stored.reserve(n) {
-            Ok(()) => Ok(()),
-            Err(_) => Err(NoMemory),
-        }
+        self.stored.reserve(n)?;
+        Ok(())
     }
 
     pub fn has(&self, id: BlockId) -> bool
@@ -121,7 +119,7 @@ impl Blocks {
     }
 
     /// Another block.
-    pub fn add(&mut self, id: BlockId, stored: Stored) -> Result<(), NoMemory>
+    pub fn add(&mut self, id: BlockId, stored: EscapedBlock) -> Result<(), NoMemory>
         requires { get self.old.blocks id ≡ None }
         ensures blocks { OnOk result (self.new.blocks ≡ insert self.old.blocks id stored.kept) }
         ensures holds { OnOk result (self.new.holds ≡ insert self.old.holds id stored.holds) }

@@ -67,9 +67,7 @@ impl Heap {
         ensures value { IfOk result (λ h. h ≡ new_heap options) }
         ensures stands { IfOk result (λ h. Stands h (opening options)) }
     {
-        let Ok(roots) = Vec::from_slice(alloc, &[None; 256]) else {
-            return Err(NoMemory);
-        };
+        let roots = Vec::from_slice(alloc, &[None; 256])?;
         Ok(Heap {
             options,
             blocks: Blocks::new(alloc),

@@ -31,7 +31,7 @@
 //!
 //! # Parts
 //!
-//! - `Stored` is a block's record: layout, words, actions, and `Holders`, how often each thread holds it, of which the
+//! - `EscapedBlock` is what is kept of one: layout, words, actions, and `Holders`, how often each thread holds it, of which the
 //!   first takes no memory.
 //! - `Blocks` is the table of the records, with room that can be taken before it is needed; `Reserved` says for which
 //!   lengths.

@@ -41,10 +41,8 @@ impl Reserved {
     pub fn of(alloc: Global, lengths: &[u32]) -> Result<Reserved, NoMemory>
         ensures { IfOk result (λ r. r ≡ lengths.now) }
     {
-        match Vec::from_slice(alloc, lengths) {
-            Ok(lengths) => Ok(Reserved { lengths, taken: 0 }),
-            Err(_) => Err(NoMemory),
-        }
+        let lengths = Vec::from_slice(alloc, lengths)?;
+        Ok(Reserved { lengths, taken: 0 })
     }
 
     /// The next block came in.

@@ -13,7 +13,7 @@ use std::marker::Model;
 
 /// An escaped block, whose words are as its layout says, and who holds it.
 #[derive(Drop)]
-pub struct Stored {
+pub struct EscapedBlock {
     layout: Layout,
     words: Vec<Word>,
     actions: Vec<Action>,
@@ -22,7 +22,7 @@ pub struct Stored {
     holders: Holders,
 }
 
-impl Model for Stored {
+impl Model for EscapedBlock {
     ghost use Rattle.shared_heap.specs.Stored.{Held};
     ghost use Rattle.shared_heap.specs.Codes.{coded_held};
 
@@ -37,16 +37,21 @@ impl Model for Stored {
     ghost invariant = { λ s. Fits s.layout s.words.items };
 }
 
-impl Stored {
+impl EscapedBlock {
     ghost use Rattle.shared_heap.specs.Shared.{newly};
 
     /// A block that has just escaped, which nobody holds. It takes no memory.
-    pub fn new(alloc: Global, layout: Layout, words: Vec<Word>, actions: Vec<Action>) -> Stored
+    pub fn new(
+        alloc: Global,
+        layout: Layout,
+        words: Vec<Word>,
+        actions: Vec<Action>,
+    ) -> EscapedBlock
         requires { Fits layout words.items }
         ensures kept { result.kept ≡ newly layout words.items actions.items }
         ensures holds { result.holds ≡ empty }
     {
-        Stored {
+        EscapedBlock {
             layout,
             words,
             actions,

@@ -4,7 +4,7 @@ use Rattle.std.proofs.lemmas.Option.{slice_get_within, slice_get-get_or}
 use Rattle.std.specs.List.{swap_remove}
 use Rattle.az_base.specs.declared.block_id.BlockId.{BlockId}
 use Rattle.az_base.specs.declared.weak_loc.WeakLoc.{WeakLoc}
-use Rattle.weak_table.specs.Seats.{Seat}
+use Rattle.weak_table.specs.Listings.{Listed}
 use Rattle.az_base.specs.Ids.{id_eq}
 use Rattle.az_base.specs.Places.{loc_eq}
 use Rattle.weak_table.specs.Agrees.{Agrees, place, is_one}
@@ -68,7 +68,7 @@ module _ {X : Type 0} where
       get-take (slice_set xs i (get_or xs (length xs - 1) d)) (length xs - 1) i (omega arith) ∙ set-there xs i (get_or xs (length xs - 1) d) (omega arith)
       ∙ sym (slice_get-get_or xs (length xs - 1) d (omega arith))
 
-same_place : (p q : Seat) → Some p ≡ Some q → p ≡ q
+same_place : (p q : Listed) → Some p ≡ Some q → p ≡ q
 same_place p q e = cc
 
 same_some : (x y : WeakLoc) → Some x ≡ Some y → x ≡ y
@@ -83,7 +83,7 @@ same_nat (suc i) (suc j) = elim (same_nat i j) as (λ _. (suc i ≡ suc j) ⊎ (
 before_last : (i n : ℕ) → i < n → (i + 1 < n) ⊎ (i ≡ n - 1)
 before_last i n l = elim (same_nat i (n - 1)) as (λ _. (i + 1 < n) ⊎ (i ≡ n - 1)) [ inl e ↦ inr e | inr d ↦ inl (omega (arith, d)) ]
 
-module _ (P Q : WeakLoc → Option Seat) (L M : BlockId → List WeakLoc) (a : Agrees P L) (l : WeakLoc) (b : BlockId) where
+module _ (P Q : WeakLoc → Option Listed) (L M : BlockId → List WeakLoc) (a : Agrees P L) (l : WeakLoc) (b : BlockId) where
   -- a location that wasn't anywhere enters a group's list at its end
   pub agrees-entered : P l ≡ None → ((q : WeakLoc) → Q q ≡ cond (loc_eq l q) (Some (place b (length (L b)))) (P q)) → ((c : BlockId) → M c ≡ cond (id_eq b c) (L b ++ l ∷ []) (L c)) → Agrees Q M
   agrees-entered none at lists = record {
@@ -91,13 +91,13 @@ module _ (P Q : WeakLoc → Option Seat) (L M : BlockId → List WeakLoc) (a : A
     listed = λ c i q h. by_id c i q (id_eq b c) refl (sym (ap (λ xs. slice_get xs i) (lists c)) ∙ h);
   }
     where
-      in_list : (p : Seat) (q : WeakLoc) (t : Bool) → id_eq b p.group ≡ t → slice_get (L p.group) p.at ≡ Some q → slice_get (cond t (L b ++ l ∷ []) (L p.group)) p.at ≡ Some q
+      in_list : (p : Listed) (q : WeakLoc) (t : Bool) → id_eq b p.group ≡ t → slice_get (L p.group) p.at ≡ Some q → slice_get (cond t (L b ++ l ∷ []) (L p.group)) p.at ≡ Some q
       in_list p q true e h = get-early (L b) (l ∷ []) p.at q (ap (λ c. slice_get (L c) p.at) (eq_is b p.group e) ∙ h)
       in_list p q false e h = h
 
-      by_loc : (q : WeakLoc) (p : Seat) (t : Bool) → loc_eq l q ≡ t → cond t (Some (place b (length (L b)))) (P q) ≡ Some p → slice_get (M p.group) p.at ≡ Some q
+      by_loc : (q : WeakLoc) (p : Listed) (t : Bool) → loc_eq l q ≡ t → cond t (Some (place b (length (L b)))) (P q) ≡ Some p → slice_get (M p.group) p.at ≡ Some q
       by_loc q p true e h =
-          subst (λ (p : Seat). slice_get (M p.group) p.at ≡ Some q) (same_place (place b (length (L b))) p h)
+          subst (λ (p : Listed). slice_get (M p.group) p.at ≡ Some q) (same_place (place b (length (L b))) p h)
           (ap (λ xs. slice_get xs (length (L b))) (lists b ∙ ap (λ t. cond t (L b ++ l ∷ []) (L b)) (eq_self b)) ∙ get-last (L b) l ∙ ap Some (loc_is l q e))
       by_loc q p false e h = ap (λ xs. slice_get xs p.at) (lists p.group) ∙ in_list p q (id_eq b p.group) refl (a.placed q p h)
 
@@ -153,7 +153,7 @@ module _ (P Q : WeakLoc → Option Seat) (L M : BlockId → List WeakLoc) (a : A
         earlier = swapped-within (L b) i i d m (sym mover ∙ e)
 
         by : (t : Bool) → loc_eq l m ≡ t → cond t None (P m) ≡ Some (place b (length (L b) - 1))
-        by true f = absurd (late (ap (λ (p : Seat). p.at) (same_place (place b i) (place b (length (L b) - 1)) (sym was ∙ ap P (loc_is l m f) ∙ its_place))))
+        by true f = absurd (late (ap (λ (p : Listed). p.at) (same_place (place b i) (place b (length (L b) - 1)) (sym was ∙ ap P (loc_is l m f) ∙ its_place))))
           where
             late : i ≡ length (L b) - 1 → ⊥
             late g = let k : i + 1 < length (L b) = swapped-within (L b) i i d m (sym mover ∙ e) in omega (arith, g, k)
@@ -183,21 +183,21 @@ module _ (P Q : WeakLoc → Option Seat) (L M : BlockId → List WeakLoc) (a : A
             by (inl k) = swapped-other (L b) i j d k apart ∙ h
             by (inr e) = let w : i < length (L b) = slice_get_within (L b) i l here in absurd (is_moved e (omega (arith, w, apart, e)))
 
-        in_list : (q : WeakLoc) (p : Seat) (t : Bool) → id_eq b p.group ≡ t → is_one moved q ≡ false → loc_eq l q ≡ false → slice_get (L p.group) p.at ≡ Some q
+        in_list : (q : WeakLoc) (p : Listed) (t : Bool) → id_eq b p.group ≡ t → is_one moved q ≡ false → loc_eq l q ≡ false → slice_get (L p.group) p.at ≡ Some q
             → slice_get (cond t (swap_remove (L b) i d) (L p.group)) p.at ≡ Some q
         in_list q p true e n m h = in_same q p.at n m (ap (λ c. slice_get (L c) p.at) (eq_is b p.group e) ∙ h)
         in_list q p false e n m h = h
 
-        by_loc : (q : WeakLoc) (p : Seat) (t : Bool) → loc_eq l q ≡ t → is_one moved q ≡ false → cond t None (P q) ≡ Some p → slice_get (M p.group) p.at ≡ Some q
+        by_loc : (q : WeakLoc) (p : Listed) (t : Bool) → loc_eq l q ≡ t → is_one moved q ≡ false → cond t None (P q) ≡ Some p → slice_get (M p.group) p.at ≡ Some q
         by_loc q p true e n h = absurd (nothing h)
           where
             nothing : None ≡ Some p → ⊥
             nothing e = cc
         by_loc q p false e n h = ap (λ xs. slice_get xs p.at) (lists p.group) ∙ in_list q p (id_eq b p.group) refl n e (a.placed q p h)
 
-        by_moved : (q : WeakLoc) (p : Seat) (t : Bool) → is_one moved q ≡ t → cond t (Some (place b i)) (cond (loc_eq l q) None (P q)) ≡ Some p → slice_get (M p.group) p.at ≡ Some q
+        by_moved : (q : WeakLoc) (p : Listed) (t : Bool) → is_one moved q ≡ t → cond t (Some (place b i)) (cond (loc_eq l q) None (P q)) ≡ Some p → slice_get (M p.group) p.at ≡ Some q
         by_moved q p true e h =
-            subst (λ (p : Seat). slice_get (M p.group) p.at ≡ Some q) (same_place (place b i) p h)
+            subst (λ (p : Listed). slice_get (M p.group) p.at ≡ Some q) (same_place (place b i) p h)
             (ap (λ xs. slice_get xs i) new_list ∙ sym mover ∙ the_one q e)
         by_moved q p false e h = by_loc q p (loc_eq l q) refl e h
 
@@ -208,10 +208,10 @@ module _ (P Q : WeakLoc → Option Seat) (L M : BlockId → List WeakLoc) (a : A
         not_first q c j h e = sym h ∙ ap P (sym (loc_is l q e)) ∙ was
 
         other_group : (c : BlockId) (j k : ℕ) → id_eq b c ≡ false → Some (place c j) ≡ Some (place b k) → ⊥
-        other_group c j k e h = true≢false (sym (eq_self b) ∙ ap (λ (p : Seat). id_eq b p.group) (sym (same_place (place c j) (place b k) h)) ∙ e)
+        other_group c j k e h = true≢false (sym (eq_self b) ∙ ap (λ (p : Listed). id_eq b p.group) (sym (same_place (place c j) (place b k) h)) ∙ e)
 
         same_at : (c e : BlockId) (j k : ℕ) → Some (place c j) ≡ Some (place e k) → j ≡ k
-        same_at c e j k h = ap (λ (p : Seat). p.at) (same_place (place c j) (place e k) h)
+        same_at c e j k h = ap (λ (p : Listed). p.at) (same_place (place c j) (place e k) h)
 
         by_at : (j : ℕ) (q : WeakLoc) → slice_get (swap_remove (L b) i d) j ≡ Some q → (j ≡ i) ⊎ (j ≡ i → ⊥) → Q q ≡ Some (place b j)
         by_at j q h (inl e) =

@@ -2,5 +2,5 @@ pub mod Locs
 pub mod Agrees
 pub mod Lists
 pub mod Grouped
-pub mod Seats
+pub mod Listings
 pub mod Shows

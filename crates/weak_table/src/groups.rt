@@ -5,7 +5,7 @@ ghost use Rattle.az_base.specs.declared.weak_loc.WeakLoc.{WeakLoc};
 
 use crate::lists::{delist, enlist, member_in, widen};
 use crate::member::Member;
-use crate::place::{Place, change_place, place_of, put_place, take_place};
+use crate::place::{Listing, change_place, place_of, put_place, take_place};
 use az_base::{BlockId, NoMemory, WeakLoc};
 use indexmap::IndexMap;
 use smallvec::SmallVec;
@@ -18,7 +18,7 @@ use std::marker::Model;
 /// gives it room again, so that the group of the next location needn't be known beforehand.
 #[derive(Drop)]
 pub struct Groups {
-    places: IndexMap<WeakLoc, Place>,
+    places: IndexMap<WeakLoc, Listing>,
     lists: IndexMap<BlockId, SmallVec<Member, 2>>,
     tight: Option<BlockId>,
     room: bool,
@@ -97,7 +97,7 @@ impl Groups {
     {
         let loc = &loc;
         let at = enlist(&mut self.lists, group, *loc);
-        put_place(&mut self.places, *loc, Place { group, at });
+        put_place(&mut self.places, *loc, Listing { group, at });
         self.tight = Some(group);
         self.room = false;
     }

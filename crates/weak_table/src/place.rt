@@ -11,17 +11,17 @@ use std::marker::Model;
 
 /// Where a location is listed: its group, and its place in the list of that group.
 #[derive(Clone, Copy)]
-pub struct Place {
+pub struct Listing {
     pub group: BlockId,
     pub at: usize,
 }
 
-impl Model for Place {
-    ghost use Rattle.weak_table.specs.Seats.{Seat, coded_seat};
+impl Model for Listing {
+    ghost use Rattle.weak_table.specs.Listings.{Listed, coded_listed};
 
-    ghost Value = { Seat };
+    ghost Value = { Listed };
 
-    ghost coded = { coded_seat };
+    ghost coded = { coded_listed };
 
     ghost view = { λ p. record { group = p.group; at = p.at } };
 
@@ -29,7 +29,7 @@ impl Model for Place {
 }
 
 /// The location's place. O(1).
-pub fn place_of(places: &IndexMap<WeakLoc, Place>, loc: WeakLoc) -> Option<Place>
+pub fn place_of(places: &IndexMap<WeakLoc, Listing>, loc: WeakLoc) -> Option<Listing>
     ensures { result ≡ lookup (loc_eq loc) places.now.entries }
 {
     match places.get(&loc) {
@@ -39,7 +39,7 @@ pub fn place_of(places: &IndexMap<WeakLoc, Place>, loc: WeakLoc) -> Option<Place
 }
 
 /// The location gets its first place. O(1), in the room that there is.
-pub fn put_place(places: &mut IndexMap<WeakLoc, Place>, loc: WeakLoc, place: Place)
+pub fn put_place(places: &mut IndexMap<WeakLoc, Listing>, loc: WeakLoc, place: Listing)
     requires { 0 < spare places.old }
     ensures { Puts loc (Some place) places.old.entries places.new.entries }
 {
@@ -49,7 +49,7 @@ pub fn put_place(places: &mut IndexMap<WeakLoc, Place>, loc: WeakLoc, place: Pla
 }
 
 /// The location gets another place. O(1).
-pub fn change_place(places: &mut IndexMap<WeakLoc, Place>, loc: WeakLoc, place: Place)
+pub fn change_place(places: &mut IndexMap<WeakLoc, Listing>, loc: WeakLoc, place: Listing)
     requires { IsSome (lookup (loc_eq loc) places.old.entries) }
     ensures puts { Puts loc (Some place) places.old.entries places.new.entries }
     ensures spare { spare places.new ≡ spare places.old }
@@ -61,7 +61,7 @@ pub fn change_place(places: &mut IndexMap<WeakLoc, Place>, loc: WeakLoc, place: 
 }
 
 /// The location loses its place, if it has one. O(1).
-pub fn take_place(places: &mut IndexMap<WeakLoc, Place>, loc: WeakLoc) -> Option<Place>
+pub fn take_place(places: &mut IndexMap<WeakLoc, Listing>, loc: WeakLoc) -> Option<Listing>
     ensures place { result ≡ lookup (loc_eq loc) places.old.entries }
     ensures puts { Puts loc None places.old.entries places.new.entries }
     ensures unchanged { IfNone result (places.new.entries ≡ places.old.entries) }

@@ -14,7 +14,7 @@ ghost use Rattle.block_layouts.specs.Fitting.{Fits};
 
 use crate::heap::Heap;
 use crate::reserved::Reserved;
-use crate::stored::Stored;
+use crate::stored::EscapedBlock;
 use az_base::{BlockId, NoMemory, ThreadNo, Word};
 use block_layouts::Layout;
 use std::alloc::Global;
@@ -57,7 +57,7 @@ impl Heap {
         self.used += layout.quanta();
         self.number += 1;
         self.room.take();
-        let stored = Stored::new(alloc, layout, words, Vec::new(alloc));
+        let stored = EscapedBlock::new(alloc, layout, words, Vec::new(alloc));
         let Ok(()) = self.blocks.add(id, stored) else {
             unreachable!()
         };

@@ -15,7 +15,7 @@ ghost use Rattle.shared_heap.specs.Steps.{Runs, Stepped, next_id, after_birth, n
 ghost use Rattle.shared_heap.specs.Words.{passes_past, passes_other, is_full, birth_misuse, PlansBirth, reply_or};
 
 use crate::heap::Heap;
-use crate::stored::Stored;
+use crate::stored::EscapedBlock;
 use az_base::{Action, BlockId, Class, Misuse, NoMemory, ThreadNo};
 use block_layouts::Layout;
 use std::alloc::Global;
@@ -143,16 +143,19 @@ impl Heap {
 }
 
 /// A block at its birth, which the thread holds once.
-fn born(alloc: Global, t: ThreadNo, layout: &Layout, actions: &[Action]) -> Result<Stored, NoMemory>
+fn born(
+    alloc: Global,
+    t: ThreadNo,
+    layout: &Layout,
+    actions: &[Action],
+) -> Result<EscapedBlock, NoMemory>
     ensures kept { IfOk result (λ s. s.kept ≡ newly layout.now (first_words layout.now) actions.now) }
     ensures holds { IfOk result (λ s. s.holds ≡ with_times empty t 1) }
 {
     let words = layout.first_words(alloc)?;
     let layout = layout.try_copy(alloc)?;
-    let Ok(actions) = Vec::from_slice(alloc, actions) else {
-        return Err(NoMemory);
-    };
-    let mut stored = Stored::new(alloc, layout, words, actions);
+    let actions = Vec::from_slice(alloc, actions)?;
+    let mut stored = EscapedBlock::new(alloc, layout, words, actions);
     // Nobody holds it yet, and one thread takes no memory.
     let Ok(()) = stored.set_times(t, 1) else {
         unreachable!()

@@ -16,13 +16,13 @@ invariant_of-result c = record {
   fits = omega arith;
   number = ap number_of c.new.ensures.blocks ∙ total-empty id_cmp (λ id (k : HeapBlock). 1);
   few = omega arith;
-  roots = ap length c.in-Ok.ensures.items ∙ length-replicate 256 (let o : Option BlockId = None in o);
+  roots = ap length c.in_ok-roots.ensures.items ∙ length-replicate 256 (let o : Option BlockId = None in o);
   room = rw c.none.ensures (omega arith);
   counts = below_empty c.new-2.result.counts c.args.options.counts c.new-2.ensures.counts;
 }
 
 pub returns-clause-value : goal.returns-clause-value
-returns-clause-value c = rw (c.new.ensures.blocks, c.new.ensures.holds, c.new-2.ensures.counts, c.new-2.ensures.spare, c.new-3.ensures.pairs, c.new-3.ensures.ready, c.new-4.ensures.shown, c.new-4.ensures.ready, c.none.ensures, c.in-Ok.ensures.items) refl
+returns-clause-value c = rw (c.new.ensures.blocks, c.new.ensures.holds, c.new-2.ensures.counts, c.new-2.ensures.spare, c.new-3.ensures.pairs, c.new-3.ensures.ready, c.new-4.ensures.shown, c.new-4.ensures.ready, c.none.ensures, c.in_ok-roots.ensures.items) refl
 
 pub returns-clause-stands : goal.returns-clause-stands
-returns-clause-stands c = rw (c.new.ensures.blocks, c.new.ensures.holds, c.new-2.ensures.counts, c.new-2.ensures.spare, c.new-3.ensures.pairs, c.new-3.ensures.ready, c.new-4.ensures.shown, c.new-4.ensures.ready, c.none.ensures, c.in-Ok.ensures.items) (opening_stands c.args.options)
+returns-clause-stands c = rw (c.new.ensures.blocks, c.new.ensures.holds, c.new-2.ensures.counts, c.new-2.ensures.spare, c.new-3.ensures.pairs, c.new-3.ensures.ready, c.new-4.ensures.shown, c.new-4.ensures.ready, c.none.ensures, c.in_ok-roots.ensures.items) (opening_stands c.args.options)

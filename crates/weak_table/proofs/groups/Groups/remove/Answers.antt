@@ -2,7 +2,7 @@ use Rattle.std.proofs.Common.{ap, ◌∙◌, sym, refl, arith, Some, None, cond}
 use Rattle.std.specs.FinMap.{remove}
 use Rattle.std.specs.Map.{lookup}
 use Rattle.az_base.specs.Places.{loc_eq}
-use Rattle.weak_table.specs.Seats.{Seat}
+use Rattle.weak_table.specs.Listings.{Listed}
 use Rattle.weak_table.specs.Agrees.{place}
 use Rattle.weak_table.specs.Grouped.{Grouped}
 use Rattle.weak_table.proofs.Grouping.{kept-index, shown-taken, group_without, place-within, left-index, left-shown, moved-listed, group_in}
@@ -45,7 +45,7 @@ invariant_of-self-2 c =
     left-index c.self.inside.places c.self.inside.lists c.self.inside.tight c.self.inside.room c.self.invariant c.args.loc (place c.place.inside.group c.place.inside.at)
     (sym c.take_place.ensures.place ∙ c.in-Some.is ∙ sym (ap Some c.place.view_is)) c.delist.new.lists (Some c.in-Some-delist.moved) c.delist.ensures.members (sym c.in-Some-delist.is ∙ c.delist.ensures.moved)
     c.change_place.new.places
-    (λ q. c.change_place.ensures.puts q ∙ ap (λ (s : Seat). cond (loc_eq c.in-Some-delist.moved q) (Some s) (lookup (loc_eq q) c.take_place.new.places.entries)) (sym c.place.view_is) ∙ ap (cond (loc_eq c.in-Some-delist.moved q) (Some (place c.place.inside.group c.place.inside.at))) (c.take_place.ensures.puts q))
+    (λ q. c.change_place.ensures.puts q ∙ ap (λ (s : Listed). cond (loc_eq c.in-Some-delist.moved q) (Some s) (lookup (loc_eq q) c.take_place.new.places.entries)) (sym c.place.view_is) ∙ ap (cond (loc_eq c.in-Some-delist.moved q) (Some (place c.place.inside.group c.place.inside.at))) (c.take_place.ensures.puts q))
     (let same = c.change_place.ensures.spare in let more = c.take_place.ensures.spare in omega (arith, same, more)) c.delist.ensures.roomy c.delist.ensures.spare
 
 pub returns-clause-groups : goal.returns-clause-groups
@@ -53,5 +53,5 @@ returns-clause-groups c =
     left-shown c.self.inside.places c.self.inside.lists c.self.inside.tight c.self.inside.room c.self.invariant c.args.loc (place c.place.inside.group c.place.inside.at)
     (sym c.take_place.ensures.place ∙ c.in-Some.is ∙ sym (ap Some c.place.view_is)) c.delist.new.lists (Some c.in-Some-delist.moved) c.delist.ensures.members (sym c.in-Some-delist.is ∙ c.delist.ensures.moved)
     c.change_place.new.places
-    (λ q. c.change_place.ensures.puts q ∙ ap (λ (s : Seat). cond (loc_eq c.in-Some-delist.moved q) (Some s) (lookup (loc_eq q) c.take_place.new.places.entries)) (sym c.place.view_is) ∙ ap (cond (loc_eq c.in-Some-delist.moved q) (Some (place c.place.inside.group c.place.inside.at))) (c.take_place.ensures.puts q))
+    (λ q. c.change_place.ensures.puts q ∙ ap (λ (s : Listed). cond (loc_eq c.in-Some-delist.moved q) (Some s) (lookup (loc_eq q) c.take_place.new.places.entries)) (sym c.place.view_is) ∙ ap (cond (loc_eq c.in-Some-delist.moved q) (Some (place c.place.inside.group c.place.inside.at))) (c.take_place.ensures.puts q))
     ∙ ap (λ (g : Grouped). remove g.groups c.args.loc) c.self.view_is
