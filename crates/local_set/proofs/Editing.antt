@@ -1,16 +1,19 @@
 -- What a write changes in a table of blocks
 use Rattle.az_base.proofs.Ids.{same_self}
-use Rattle.std.proofs.Common.{◌≡◌, ℕ, ◌+◌, ◌<◌, ◌≤◌, Bool, true, false, cond, ◌||◌, Option, Some, None, MatchOption, slice_get, slice_set, option_and_then, refl, ap, ◌∙◌, arith}
+use Rattle.std.proofs.Common.{◌≡◌, ℕ, ◌+◌, ◌<◌, ◌≤◌, Bool, true, false, cond, ◌||◌, List, length, get_or, Option, Some, None, MatchOption, slice_get, slice_set, option_and_then, refl, sym, ap, ◌∙◌, arith}
 use Rattle.std.specs.FinMap.{FinMap, get}
+use Rattle.std.proofs.lemmas.Option.{slice_get-get_or}
 use Rattle.az_base.specs.declared.block_id.BlockId.{BlockId}
 use Rattle.az_base.specs.declared.word.Word.{Word}
 use Rattle.az_base.specs.declared.word.Word.TheVariants as word
 use Rattle.az_base.specs.declared.word.Class.{Class}
 use Rattle.az_base.specs.declared.word.Class.TheVariants as class
 use Rattle.az_base.specs.Ids.{id_cmp, same_id, among}
+use Rattle.block_layouts.specs.declared.layout.Layout.{Layout}
 use Rattle.block_layouts.specs.Layouts.{class_at}
+use Rattle.block_layouts.proofs.Fitting.{place_within}
 use Rattle.zone_model.specs.State.{Block, referent, reference, with_edit}
-use Rattle.block_layouts.specs.Fitting.{Suits, FitsAt}
+use Rattle.block_layouts.specs.Fitting.{Suits, FitsAt, Fits}
 use Rattle.local_set.specs.Holds.{one_if, words_to, word_holds}
 use Rattle.local_set.specs.Counting.{list_of}
 use Rattle.local_set.proofs.Quantities.{holds_edited, holds_there, refers_there}
@@ -93,3 +96,14 @@ plain_there m id at w h k = go (get m id) h k
     go : (o : Option Block) → MatchOption o ⊥ (λ (b : Block). FitsAt b.layout at (word.Number 0)) → MatchOption o ⊥ (λ (b : Block). FitsAt b.layout at w) → Suits class.Plain w
     go None h k = absurd h
     go (Some b) h k = plain_class (class_at b.layout at) w h k
+
+-- where a word would fit, a word stands
+pub fits_within : (l : Layout) (ws : List Word) (at : ℕ) (w : Word) → Fits l ws → FitsAt l at w → at < length ws
+fits_within l ws at w fits h = go (class_at l at) refl h
+  where
+    go : (o : Option Class) → class_at l at ≡ o → MatchOption o ⊥ (λ c. Suits c w) → at < length ws
+    go None e h = absurd h
+    go (Some k) e h = place_within l ws at k fits e
+
+pub stood_there : (l : Layout) (ws : List Word) (at : ℕ) (now was : Word) → Fits l ws → FitsAt l at now → was ≡ get_or ws at was → slice_get ws at ≡ Some was
+stood_there l ws at now was fits h e = slice_get-get_or ws at was (fits_within l ws at now fits h) ∙ ap Some (sym e)

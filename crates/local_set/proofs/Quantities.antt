@@ -1,6 +1,6 @@
 -- The quanta of a table's blocks, and in how many of their words a block stands
-use Rattle.std.proofs.Common.{◌≡◌, ℕ, ◌+◌, ◌≤◌, true, List, [], ◌∷◌, Option, Some, None, slice_get, slice_set, map, replicate, zero, suc, refl, sym, ap, ◌∙◌, arith, not}
-use Rattle.std.specs.Option.{option_map_or}
+use Rattle.std.proofs.Common.{◌≡◌, ℕ, ◌+◌, ◌≤◌, true, length, List, [], ◌∷◌, Option, Some, None, slice_get, slice_set, map, replicate, zero, suc, refl, sym, ap, ◌∙◌, arith, not}
+use Rattle.std.specs.Option.{option_map_or, unwrap_or}
 use Rattle.std.specs.FinMap.{FinMap, get, insert, retain_keys}
 use Rattle.az_base.specs.declared.block_id.BlockId.{BlockId}
 use Rattle.az_base.specs.declared.word.Word.{Word}
@@ -17,7 +17,7 @@ use Rattle.zone_model.specs.State.{Block, referent, with_edit}
 use Rattle.zone_model.specs.Quanta.{quanta_where}
 use Rattle.zone_model.specs.Part.{own_block}
 use Rattle.zone_model.proofs.Totals.{total_added}
-use Rattle.local_set.specs.Holds.{one_if, words_to, word_holds}
+use Rattle.local_set.specs.Holds.{one_if, words_to, word_holds, one_if_some, references_in}
 use Rattle.local_set.proofs.Tables.{put_back, left_itself}
 
 -- the quanta of the blocks
@@ -92,6 +92,65 @@ words_set q (w ∷ ws) zero was now h =
 words_set q (w ∷ ws) (suc at) was now h =
     let rest : words_to q (slice_set ws at now) + one_if q (referent (Some was)) ≡ words_to q ws + one_if q (referent (Some now)) = words_set q ws at was now h in
     omega arith
+
+-- of how many words that refer to a block there are
+pub references_set : (ws : List Word) (at : ℕ) (was now : Word) → slice_get ws at ≡ Some was → references_in (slice_set ws at now) + references_in (was ∷ []) ≡ references_in ws + references_in (now ∷ [])
+references_set [] at was now h = cc
+references_set (w ∷ ws) zero was now h =
+    let e : references_in (w ∷ []) ≡ references_in (was ∷ []) = ap (λ o. references_in (unwrap_or o w ∷ [])) h in
+    omega arith
+references_set (w ∷ ws) (suc at) was now h =
+    let rest : references_in (slice_set ws at now) + references_in (was ∷ []) ≡ references_in ws + references_in (now ∷ []) = references_set ws at was now h in
+    omega arith
+
+pub references_there : (ws : List Word) (at : ℕ) (w : Word) → slice_get ws at ≡ Some w → references_in (w ∷ []) ≤ references_in ws
+references_there [] at w h = cc
+references_there (v ∷ ws) zero w h =
+    let e : references_in (v ∷ []) ≡ references_in (w ∷ []) = ap (λ o. references_in (unwrap_or o v ∷ [])) h in
+    omega arith
+references_there (v ∷ ws) (suc at) w h = let e : references_in (w ∷ []) ≤ references_in ws = references_there ws at w h in omega (arith, e)
+
+pub references_within : (ws : List Word) → references_in ws ≤ length ws
+references_within [] = omega arith
+references_within (w ∷ ws) = let rest : references_in ws ≤ length ws = references_within ws in one (referent (Some w)) refl rest
+  where
+    one : (o : Option BlockId) → referent (Some w) ≡ o → references_in ws ≤ length ws → references_in (w ∷ ws) ≤ length (w ∷ ws)
+    one None e rest = let none : one_if_some (referent (Some w)) ≡ 0 = ap one_if_some e in omega (arith, none, rest)
+    one (Some b) e rest = let some : one_if_some (referent (Some w)) ≡ 1 = ap one_if_some e in omega (arith, some, rest)
+
+-- where none refers to a block, none refers to this one
+pub no_references : (q : BlockId) (ws : List Word) → references_in ws ≡ 0 → words_to q ws ≡ 0
+no_references q [] h = refl
+no_references q (w ∷ ws) h = one (referent (Some w)) refl (no_references q ws)
+  where
+    one : (o : Option BlockId) → referent (Some w) ≡ o → (references_in ws ≡ 0 → words_to q ws ≡ 0) → words_to q (w ∷ ws) ≡ 0
+    one None e rest =
+        let none : one_if q (referent (Some w)) ≡ 0 = ap (one_if q) e in
+        let others : words_to q ws ≡ 0 = rest (omega (arith, h)) in
+        omega arith
+    one (Some b) e rest =
+        let some : one_if_some (referent (Some w)) ≡ 1 = ap one_if_some e in
+        absurd (omega (arith, h, some))
+
+no_references_in : (n : ℕ) (w : Word) → referent (Some w) ≡ None → references_in (replicate n w) ≡ 0
+no_references_in zero w h = refl
+no_references_in (suc n) w h =
+    let none : one_if_some (referent (Some w)) ≡ 0 = ap one_if_some h in
+    let rest : references_in (replicate n w) ≡ 0 = no_references_in n w h in
+    omega arith
+
+no_first_references : (cs : List Class) → references_in (map first_word cs) ≡ 0
+no_first_references [] = refl
+no_first_references (c ∷ cs) =
+    let none : one_if_some (referent (Some (first_word c))) ≡ 0 = ap one_if_some (first_refers c) in
+    let rest : references_in (map first_word cs) ≡ 0 = no_first_references cs in
+    omega arith
+
+-- no word of a new block refers to a block
+pub first_references : (l : Layout) → references_in (first_words l) ≡ 0
+first_references (shape.Scanned n) = no_references_in n word.Null refl
+first_references (shape.Unscanned n) = no_references_in n (word.Number 0) refl
+first_references (shape.Object cs) = no_first_references cs
 
 pub holds_edited : (m : FinMap id_cmp Block) (id : BlockId) (b : Block) (at : ℕ) (was now : Word) (q : BlockId) → get m id ≡ Some b → slice_get b.words at ≡ Some was
     → word_holds (with_edit m id (λ b. record b { words = slice_set b.words at now })) q + one_if q (referent (Some was)) ≡ word_holds m q + one_if q (referent (Some now))

@@ -8,7 +8,6 @@ use Rattle.std.specs.Map.{lookup}
 use Rattle.std.specs.declared.cmp.Ordering.{Ordering}
 use Rattle.std.specs.declared.cmp.Ordering.TheVariants.{Less, Equal, Greater}
 use Rattle.std.specs.Ordering.{is_eq, nat_cmp, ordering_then}
-use Rattle.std.specs.Cmp.{eq_by_cmp_equiv, tied_itself}
 use Rattle.std.specs.FinMap.{FinMap, get, contains_key, insert, get-from_entries, get-insert, get-empty, empty, retain_keys, same_map}
 use Rattle.std.specs.FinMap.Entries.{find}
 use Rattle.az_base.specs.declared.block_id.BlockId.{BlockId}

@@ -1,5 +1,5 @@
 -- How often a part holds a block
-use Rattle.std.specs.Prelude.{ℕ, ◌+◌, zero, suc, false, if◌then◌else◌, List, [], ◌∷◌, Option, Some}
+use Rattle.std.specs.Prelude.{ℕ, ◌+◌, zero, suc, false, if◌then◌else◌, List, [], ◌∷◌, Option, Some, None}
 use Rattle.std.specs.Option.{option_map_or}
 use Rattle.std.specs.FinMap.{FinMap}
 use Rattle.az_base.specs.declared.block_id.BlockId.{BlockId}
@@ -17,6 +17,16 @@ one_if q held = if option_map_or (same_id q) held false then 1 else 0
 abbrev pub words_to : BlockId → List Word → ℕ
 words_to q [] = 0
 words_to q (w ∷ ws) = one_if q (referent (Some w)) + words_to q ws
+
+-- 1 where it is a block, and else 0
+abbrev pub one_if_some : Option BlockId → ℕ
+one_if_some None = 0
+one_if_some (Some b) = 1
+
+-- how many of the words refer to a block
+abbrev pub references_in : List Word → ℕ
+references_in [] = 0
+references_in (w ∷ ws) = one_if_some (referent (Some w)) + references_in ws
 
 -- in how many words of the blocks it stands
 abbrev pub word_holds : FinMap id_cmp Block → BlockId → ℕ

@@ -14,12 +14,13 @@ ghost use Rattle.zone_model.specs.Part.{own_block};
 ghost use Rattle.az_base.specs.declared.word.Class.TheVariants as class;
 ghost use Rattle.block_layouts.specs.Fitting.{Fits, Suits};
 ghost use Rattle.local_set.specs.LocalSets.{Table, blocks_of};
-ghost use Rattle.local_set.specs.Holds.{word_holds};
+ghost use Rattle.local_set.specs.Counting.{count_in, IsBounded};
+ghost use Rattle.local_set.specs.Holds.{word_holds, words_to};
 ghost use Rattle.local_set.specs.Calls.{MayHold, IsAt, word_misuse};
 ghost use Rattle.local_set.specs.Tables.{AreThere, NotesChange, NotesReferents};
 
 use crate::references::{References, referent};
-use crate::stored::Stored;
+use crate::stored::OwnBlock;
 use az_base::{BlockId, Class, Misuse, NoMemory, Word};
 use block_layouts::Layout;
 use indexmap::{IndexMap, IndexSet};
@@ -30,7 +31,7 @@ use zone_model::IdList;
 /// The blocks by id, their quanta, and how many of their words refer to each block.
 #[derive(Drop)]
 pub struct Blocks {
-    stored: IndexMap<BlockId, Stored>,
+    stored: IndexMap<BlockId, OwnBlock>,
     quanta: u32,
     references: References,
 }
@@ -201,15 +202,14 @@ impl Blocks {
     {
         let quanta = layout.quanta();
         let id = &id;
-        let block = Stored::new(alloc, layout)?;
-        let Ok(_) = self.stored.insert(*id, block) else {
-            return Err(NoMemory);
-        };
+        let block = OwnBlock::new(alloc, layout)?;
+        let _ = self.stored.insert(*id, block)?;
         self.quanta += quanta;
         Ok(())
     }
 
-    /// A block is taken out. O(words) expected; it takes no memory.
+    /// A block is taken out. O(1) expected where none of its words refers to a block, and else O(words), of which each
+    /// block has at most 4,096. It takes no memory.
     pub fn take(&mut self, id: BlockId) -> (Layout, Vec<Word>)
         requires { contains_key (blocks_of self.old.list) id ≡ true }
         ensures block { get (blocks_of self.old.list) id ≡ Some (record (own_block result.0) { words = result.1.items }) }
@@ -223,7 +223,7 @@ impl Blocks {
             unreachable!()
         };
         self.quanta -= block.layout().quanta();
-        self.references.forget(block.words());
+        forget_words(&mut self.references, &block);
         block.into_parts()
     }
 
@@ -340,6 +340,19 @@ impl Blocks {
     }
 }
 
+/// The words of the block, which is gone, count no more.
+fn forget_words(references: &mut References, block: &OwnBlock)
+    requires counted { (q : ABlockId) → words_to q block.now.words ≤ count_in references.old q }
+    requires bounded { IsBounded references.old }
+    ensures counts { (q : ABlockId) → count_in references.new q + words_to q block.now.words ≡ count_in references.old q }
+    ensures bounded { IsBounded references.new }
+    ensures changed { references.new.changed ≡ references.old.changed }
+{
+    if block.refers() {
+        references.forget(block.words());
+    }
+}
+
 /// The id is put behind the others, unless it is among the found ones.
 fn push_but(ids: &mut Vec<BlockId>, id: BlockId, found: &IndexSet<BlockId>) -> Result<(), NoMemory>
     ensures { OnOk result (ids.new.items ≡ ids.old.items ++ (if among found.now.keys id then [] else id ∷ [])) }
@@ -347,14 +360,12 @@ fn push_but(ids: &mut Vec<BlockId>, id: BlockId, found: &IndexSet<BlockId>) -> R
     if found.contains(&id) {
         return Ok(());
     }
-    match ids.push(id) {
-        Ok(()) => Ok(()),
-        Err(_) => Err(NoMemory),
-    }
+    ids.push(id)?;
+    Ok(())
 }
 
 /// The word at a place of a block.
-fn read(stored: &IndexMap<BlockId, Stored>, id: BlockId, at: u32) -> Word
+fn read(stored: &IndexMap<BlockId, OwnBlock>, id: BlockId, at: u32) -> Word
     requires { IsAt stored.now.entries id at }
     ensures word { option_and_then (λ b. slice_get b.words at) (get (blocks_of stored.now.entries) id) ≡ Some result }
     ensures fit { MayHold stored.now.entries id at result }
@@ -366,7 +377,7 @@ fn read(stored: &IndexMap<BlockId, Stored>, id: BlockId, at: u32) -> Word
 }
 
 /// Another word at a place of a block; the answer is the word that stood there.
-fn write(stored: &mut IndexMap<BlockId, Stored>, id: BlockId, at: u32, word: Word) -> Word
+fn write(stored: &mut IndexMap<BlockId, OwnBlock>, id: BlockId, at: u32, word: Word) -> Word
     requires { MayHold stored.old.entries id at word }
     ensures blocks { blocks_of stored.new.entries ≡ with_edit (blocks_of stored.old.entries) id (λ b. record b { words = slice_set b.words at word }) }
     ensures old { option_and_then (λ b. slice_get b.words at) (get (blocks_of stored.old.entries) id) ≡ Some result }

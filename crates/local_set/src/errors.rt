@@ -1,4 +1,8 @@
 //! Why a call was not made.
+ghost use Rattle.std.specs.Prelude.{◌≡◌};
+ghost use Rattle.local_set.specs.declared.errors.LocalErr.TheVariants as err;
+
+use az_base::NoMemory;
 use thiserror::Error;
 
 /// Why a call was not made, and nothing has changed. The first that stands is answered.
@@ -12,4 +16,12 @@ pub enum LocalErr {
     PendingFull,
     #[error("NoMemory")]
     NoMemory,
+}
+
+impl From<NoMemory> for LocalErr {
+    ghost from_gives = { λ _ e. e ≡ err.NoMemory };
+
+    fn from(_error: NoMemory) -> LocalErr {
+        LocalErr::NoMemory
+    }
 }

@@ -25,9 +25,9 @@
 //! block of which the number of words may be another, and `published` the registers as they were then. So a publication
 //! looks at what changed, and at nothing else.
 //!
-//! - `Stored` is one block: its layout, and words that fit it. `Blocks` is the table of them by id, with their quanta.
+//! - `OwnBlock` is one block: its layout, and words that fit it. `Blocks` is the table of them by id, with their quanta.
 //! - `References` counts the words that refer to each block, and notes which counts may have changed.
-//! - `Walk` finds what the registers lead to, without recursion.
+//! - `Trace` finds what the registers lead to, without recursion.
 //! - `Waiting` has the entries that wait, with room that can be taken before it is needed.
 //! - `Local` has the calls. Each is a local step of the definitions, from the part before it to the part after it.
 //!

@@ -107,9 +107,7 @@ impl References {
         ensures bounded { IsBounded self.new }
     {
         let (from, to) = (&from, &to);
-        let Ok(()) = self.changed.reserve(2) else {
-            return Err(NoMemory);
-        };
+        self.changed.reserve(2)?;
         self.raise(*to)?;
         self.lower(*from);
         self.note(*from);
@@ -151,10 +149,8 @@ impl References {
         let Some(id) = id else {
             return Ok(());
         };
-        match self.changed.push(id) {
-            Ok(()) => Ok(()),
-            Err(_) => Err(NoMemory),
-        }
+        self.changed.push(id)?;
+        Ok(())
     }
 
     /// The first `n` of the noted blocks stay noted.

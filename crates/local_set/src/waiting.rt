@@ -61,10 +61,8 @@ impl Waiting {
         ensures full { OnErr result (self.old.spare < n) }
         ensures err { OnErr result (self.new ≡ self.old) }
     {
-        match self.entries.reserve(n) {
-            Ok(()) => Ok(()),
-            Err(_) => Err(NoMemory),
-        }
+        self.entries.reserve(n)?;
+        Ok(())
     }
 
     /// One more entry, for which there is room.

@@ -14,11 +14,11 @@ use std::alloc::Global;
 /// The blocks that were found, each once, in the order in which they were found. Those before a place of the walk were
 /// followed; where all were, nothing more is to be found.
 #[derive(Drop)]
-struct Walk {
+struct Trace {
     found: IndexSet<BlockId>,
 }
 
-impl Walk {
+impl Trace {
     /// Finds a block, where it is one of these.
     fn visit(&mut self, blocks: &Blocks, value: Option<BlockId>) -> Result<(), NoMemory>
         ensures { OnOk result (Visits (blocks_of blocks.now.list) self.old.found.keys self.new.found.keys value) }
@@ -30,9 +30,7 @@ impl Walk {
         if !blocks.has(*id) {
             return Ok(());
         }
-        let Ok(_) = self.found.insert(*id) else {
-            return Err(NoMemory);
-        };
+        let _ = self.found.insert(*id)?;
         Ok(())
     }
 
@@ -77,7 +75,7 @@ pub fn reached(
 ) -> Result<IndexSet<BlockId>, NoMemory>
     ensures { IfOk result (λ found. IsReached (blocks_of blocks.now.list) registers.now found.keys) }
 {
-    let mut walk = Walk {
+    let mut walk = Trace {
         found: IndexSet::new(alloc),
     };
     walk.begin(blocks, registers)?;

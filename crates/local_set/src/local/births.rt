@@ -53,9 +53,7 @@ impl Local {
             return Ok(Reply::Misuse(Misuse::SerialsUsed));
         };
         let id = &id;
-        let Ok(()) = self.add_block(alloc, *id, &layout) else {
-            return Err(LocalErr::NoMemory);
-        };
+        self.add_block(alloc, *id, &layout)?;
         self.hold(to, Some(*id));
         self.wait(birth(to, layout), Reply::Block(Some(*id)));
         Ok(Reply::Block(Some(*id)))

@@ -45,15 +45,9 @@ impl Local {
         ensures { Answers self.old self.new call.CollectLocal result }
     {
         self.ready()?;
-        let Ok(gone) = self.dead(alloc) else {
-            return Err(LocalErr::NoMemory);
-        };
-        let Ok(copy) = gone.try_copy(alloc) else {
-            return Err(LocalErr::NoMemory);
-        };
-        let Ok(()) = self.remove(gone.as_slice()) else {
-            return Err(LocalErr::NoMemory);
-        };
+        let gone = self.dead(alloc)?;
+        let copy = gone.try_copy(alloc)?;
+        self.remove(gone.as_slice())?;
         self.wait(Call::CollectLocal, Reply::Reclaimed(copy));
         Ok(Reply::Reclaimed(gone))
     }

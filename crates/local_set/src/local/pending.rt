@@ -19,10 +19,8 @@ impl Local {
         if self.waiting.len() >= self.options.pending as usize {
             return Err(LocalErr::PendingFull);
         }
-        match self.waiting.reserve(1) {
-            Ok(()) => Ok(()),
-            Err(NoMemory) => Err(LocalErr::NoMemory),
-        }
+        self.waiting.reserve(1)?;
+        Ok(())
     }
 
     /// The entry of a call waits behind the others.

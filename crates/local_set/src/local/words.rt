@@ -100,9 +100,7 @@ impl Local {
             return Ok(self.misused(Call::Store { into, at, from }, misuse));
         }
         let Some(id) = *holder else { unreachable!() };
-        let Ok(()) = self.set_reference(id, at, self.register(from)) else {
-            return Err(LocalErr::NoMemory);
-        };
+        self.set_reference(id, at, self.register(from))?;
         self.wait(Call::Store { into, at, from }, Reply::Done);
         Ok(Reply::Done)
     }

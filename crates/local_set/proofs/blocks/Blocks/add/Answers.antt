@@ -13,7 +13,7 @@ invariant_of-self-2 c =
     let es = c.self.inside.stored.entries in
     let b = c.in_ok-block.block in
     let absent = rw (← c.self.view_is) at c.requires.absent in
-    let map = inserted es c.insert.new.self.entries c.args.id b c.in-Ok.ensures.updates.0 in
+    let map = inserted es c.insert.new.self.entries c.args.id b c.in_ok-insert.ensures.updates.0 in
     let born : b ≡ own_block c.args.layout.now = c.in_ok-block.ensures in
     let now : blocks_of c.insert.new.self.entries ≡ insert (blocks_of es) c.args.id (own_block c.args.layout.now) = map ∙ ap (insert (blocks_of es) c.args.id) born in
     let sum : quanta_in (insert (blocks_of es) c.args.id (own_block c.args.layout.now)) ≡ quanta_in (blocks_of es) + quanta (len_of c.args.layout.now) = quanta_added (blocks_of es) c.args.id (own_block c.args.layout.now) absent in
@@ -29,10 +29,10 @@ invariant_of-self-2 c =
 pub returns-clause-blocks : goal.returns-clause-blocks
 returns-clause-blocks c =
     let es = c.self.inside.stored.entries in
-    rw (← c.self.view_is) (inserted es c.insert.new.self.entries c.args.id c.in_ok-block.block c.in-Ok.ensures.updates.0 ∙ ap (insert (blocks_of es) c.args.id) c.in_ok-block.ensures)
+    rw (← c.self.view_is) (inserted es c.insert.new.self.entries c.args.id c.in_ok-block.block c.in_ok-insert.ensures.updates.0 ∙ ap (insert (blocks_of es) c.args.id) c.in_ok-block.ensures)
 
 pub returns-clause-holds : goal.returns-clause-holds
 returns-clause-holds c = λ q.
     let es = c.self.inside.stored.entries in
     let absent = rw (← c.self.view_is) at c.requires.absent in
-    rw (← c.self.view_is) (ap (λ m. word_holds m q) (inserted es c.insert.new.self.entries c.args.id c.in_ok-block.block c.in-Ok.ensures.updates.0 ∙ ap (insert (blocks_of es) c.args.id) c.in_ok-block.ensures) ∙ holds_born (blocks_of es) c.args.id c.args.layout.now q absent)
+    rw (← c.self.view_is) (ap (λ m. word_holds m q) (inserted es c.insert.new.self.entries c.args.id c.in_ok-block.block c.in_ok-insert.ensures.updates.0 ∙ ap (insert (blocks_of es) c.args.id) c.in_ok-block.ensures) ∙ holds_born (blocks_of es) c.args.id c.args.layout.now q absent)

@@ -21,14 +21,13 @@ overflow_sub-self c =
     let is : quanta (len_of c.layout.result.now) ≡ quanta (len_of b.layout) = ap (λ (l : Layout). quanta (len_of l)) c.layout.ensures in
     omega (arith, sum, is, c.self.invariant.quanta, c.quanta.ensures.value)
 
-pub forget-requires-clause-counted : goal.forget-requires-clause-counted
-forget-requires-clause-counted c = λ q.
+pub forget_words-requires-clause-counted : goal.forget_words-requires-clause-counted
+forget_words-requires-clause-counted c = λ q.
     let m = blocks_of c.self.inside.stored.entries in
     let b = c.in-Some.block in
     let holds : words_to q b.words ≤ word_holds m q = holds_there m c.args.id b q (there_is c.self.inside.stored.entries c.args.id b c.in-Some.ensures.value) in
     let counted : count_in c.self.inside.references q ≡ word_holds m q = c.self.invariant.counted q in
-    let is : words_to q c.words.result.now ≡ words_to q b.words = ap (words_to q) c.words.ensures.words in
-    omega (arith, holds, counted, is)
+    omega (arith, holds, counted)
 
 pub invariant_of-self : goal.invariant_of-self
 invariant_of-self c =
@@ -47,10 +46,9 @@ invariant_of-self c =
           let gone : word_holds m q ≡ word_holds (retain_keys m (λ q. not (same_id c.args.id q))) q + words_to q b.words = holds_removed m c.args.id b q here in
           let left : word_holds (blocks_of c.swap_remove.new.self.entries) q ≡ word_holds (retain_keys m (λ q. not (same_id c.args.id q))) q = ap (λ n. word_holds n q) map in
           let counted : count_in c.self.inside.references q ≡ word_holds m q = c.self.invariant.counted q in
-          let fallen : count_in c.forget.new.self q + words_to q c.words.result.now ≡ count_in c.self.inside.references q = c.forget.ensures.counts q in
-          let words : words_to q c.words.result.now ≡ words_to q b.words = ap (words_to q) c.words.ensures.words in
+          let fallen : count_in c.forget_words.new.references q + words_to q b.words ≡ count_in c.self.inside.references q = c.forget_words.ensures.counts q in
           omega arith;
-      bounded = c.forget.ensures.bounded;
+      bounded = c.forget_words.ensures.bounded;
     }
 
 pub returns-clause-block : goal.returns-clause-block

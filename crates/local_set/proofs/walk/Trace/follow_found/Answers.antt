@@ -2,7 +2,7 @@ use Rattle.std.proofs.Common.{sym, ◌∙◌}
 use Rattle.std.proofs.lemmas.Result.{on_ok_weaker}
 use Rattle.local_set.specs.LocalSets.{blocks_of}
 use Rattle.local_set.proofs.Walks.{visits_there}
-use Rattle.local_set.proofs.walk.Walk.follow_found.Goals as goal
+use Rattle.local_set.proofs.walk.Trace.follow_found.Goals as goal
 
 pub words-requires : goal.words-requires
 words-requires c = c.requires.there c.in-Some.id (sym c.get_index.ensures.key ∙ sym c.in-Some.ensures)

@@ -2,7 +2,7 @@ use Rattle.std.proofs.Common.{length, refl}
 use Rattle.std.proofs.lemmas.Option.{slice_get_read}
 use Rattle.local_set.specs.LocalSets.{blocks_of}
 use Rattle.local_set.proofs.Walks.{visited_none, visited_more, visited_all}
-use Rattle.local_set.proofs.walk.Walk.begin.Goals as goal
+use Rattle.local_set.proofs.walk.Trace.begin.Goals as goal
 
 pub loop-held-init : goal.loop-held-init
 loop-held-init c = visited_none (blocks_of c.args.blocks.now.list) c.args.self.now.found.keys c.args.registers.now

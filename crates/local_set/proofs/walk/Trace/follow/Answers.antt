@@ -5,7 +5,7 @@ use Rattle.zone_model.specs.State.{referent}
 use Rattle.local_set.specs.LocalSets.{blocks_of}
 use Rattle.local_set.specs.Walks.{referents_of}
 use Rattle.local_set.proofs.Walks.{visited_none, visited_more, visited_all, word_visits, next_referent}
-use Rattle.local_set.proofs.walk.Walk.follow.Goals as goal
+use Rattle.local_set.proofs.walk.Trace.follow.Goals as goal
 
 pub loop-word-init : goal.loop-word-init
 loop-word-init c = visited_none (blocks_of c.args.blocks.now.list) c.args.self.now.found.keys (referents_of c.args.words.now)
