@@ -17,7 +17,7 @@ use Rattle.play_order.specs.Places.{Played}
 use Rattle.play_order.specs.Waiting.{Queues, InPlace}
 use Rattle.zone_history.specs.Histories.{Request}
 use Rattle.play_order.specs.Play.{with_leaves, own_entries, is_local_act, IsTurn, AreTurns, IsPlayOf}
-use Rattle.play_order.specs.Playing.{Seen, Keeps, Turn, SoFar}
+use Rattle.play_order.specs.Playing.{Seen, IsTold, Turn, SoFar}
 use Rattle.play_order.proofs.InPlace.{plays_in_place}
 use Rattle.play_order.proofs.Threads.{in_turn}
 use Rattle.play_order.proofs.Ends.{turns_own}
@@ -43,8 +43,8 @@ one_entry p (act.Call c) (e ∷ f ∷ es) g h = absurd (bad g)
 one_entry p (act.Collect m) es g h = absurd (true≢false (sym h))
 
 -- the loop: one more line
-pub so_far_more : (requests : List Request) (w after : Seen) (a : Request) (line : Played) → Keeps w → SoFar requests w → Turn w a line after → SoFar (requests ++ a ∷ []) after
-so_far_more requests w after a line keeps so t =
+pub so_far_more : (requests : List Request) (w after : Seen) (a : Request) (line : Played) → IsTold w a.0 → SoFar requests w → Turn w a line after → SoFar (requests ++ a ∷ []) after
+so_far_more requests w after a line told so t =
     let o = w.options in
     let turn : IsTurn o so.lines a line = record { thread = t.thread; group = t.group; own = t.own; part = w.parts line.thread; given = given; local = t.local } in
     let placed = plays_in_place o.pending so.lines line w.queues after.queues so.placed (λ is. one_entry (w.parts line.thread) a.1 line.entries t.group (sym t.local ∙ is)) t.plays in
@@ -57,7 +57,7 @@ so_far_more requests w after a line keeps so t =
     given : Solo w.options (own_entries line.thread so.lines) (w.parts line.thread)
     given = subst (λ es. Solo w.options es (w.parts line.thread))
         (ap₂ (λ j es. entries_of line.thread j ++ es) so.placed.journal (so.placed.waits line.thread) ∙ (in_turn w.options.pending so.lines (turns_own w.options [] requests so.lines so.turns)).own line.thread)
-        (keeps.alone line.thread)
+        (subst (IsTold w) (sym t.thread) told)
 
 -- at first nothing was requests for
 pub so_far_none : (w : Seen) → w.queues.journal ≡ [] → ((t : ℕ) → w.queues.waits t ≡ []) → SoFar [] w

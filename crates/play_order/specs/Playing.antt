@@ -1,7 +1,7 @@
 -- What a world shows while it plays what threads are asked for, and what has to be known of one line for the whole to be in order
 use Rattle.std.specs.Prelude.{◌≡◌, ℕ, List, [], ◌++◌, All}
 use Rattle.az_base.specs.declared.options.Options.{Options}
-use Rattle.zone_model.specs.History.{Legal, IsGroup, entries_of}
+use Rattle.zone_model.specs.History.{IsGroup, entries_of}
 use Rattle.zone_model.specs.Part.{Part, Solo}
 use Rattle.zone_history.specs.Histories.{Request}
 use Rattle.play_order.specs.Places.{Played}
@@ -14,10 +14,9 @@ pub record Seen : Type 0 where
   pub queues : Queues
   pub parts : ℕ → Part
 
--- what a world keeps: the journal is legal, and each thread's part is what its entries make of it, the published and then the waiting ones
-pub record Keeps (w : Seen) : Type 0 where
-  pub legal : Legal w.options w.queues.journal
-  pub alone : (t : ℕ) → Solo w.options (entries_of t w.queues.journal ++ w.queues.waits t) (w.parts t)
+-- the thread's part is what its entries make, the published and then the waiting ones
+abbrev pub IsTold : Seen → ℕ → Type 0
+IsTold w t = Solo w.options (entries_of t w.queues.journal ++ w.queues.waits t) (w.parts t)
 
 -- a line is played: its entries are its thread's, and the group of what it asks for; it is local or not at its thread's part; and it waits or is published
 pub record Turn (w : Seen) (r : Request) (line : Played) (after : Seen) : Type 0 where

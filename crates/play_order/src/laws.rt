@@ -13,7 +13,7 @@ ghost use Rattle.zone_history.specs.Histories.{Request, IsHistoryOf};
 ghost use Rattle.play_order.specs.Places.{Played, Singles, latest_first, waiting, waiting_entries, in_order};
 ghost use Rattle.play_order.specs.Waiting.{Queues, InPlace, Plays};
 ghost use Rattle.play_order.specs.Play.{IsProper, IsPlayOf, with_leaves};
-ghost use Rattle.play_order.specs.Playing.{Seen, Keeps, Turn, SoFar};
+ghost use Rattle.play_order.specs.Playing.{Seen, IsTold, Turn, SoFar};
 ghost use Rattle.play_order.specs.Examples.{local_line, shared_line};
 
 /// Lists of waiting entries, one a thread, keep the order of the places: whatever is published stands where the places
@@ -51,9 +51,9 @@ pub fn at_first_nothing_is_asked_for()
     ensures { (w : Seen) → w.queues.journal ≡ [] → ((t : ℕ) → w.queues.waits t ≡ []) → SoFar [] w }
 {}
 
-/// A world that plays one more line stays in order.
+/// A world that plays one more line, of a thread whose part is told by its entries, stays in order.
 pub fn a_turn_stays_in_order()
-    ensures { (requests : List Request) (w after : Seen) (r : Request) (line : Played) → Keeps w → SoFar requests w → Turn w r line after → SoFar (requests ++ r ∷ []) after }
+    ensures { (requests : List Request) (w after : Seen) (r : Request) (line : Played) → IsTold w r.0 → SoFar requests w → Turn w r line after → SoFar (requests ++ r ∷ []) after }
 {}
 
 /// A thread's part is what its own entries make, the published and then the waiting ones.

@@ -12,7 +12,7 @@
 //! - `Play` says which histories a list of requests has in this order: legal ones, in which each line's entries are the
 //!   group of what it asks for, and a line is local where its thread's part says so.
 //! - `Waiting` has the lists of the code: what is published, and what waits of each thread; and what one line does to them.
-//! - `Playing` says what a world has to keep and to do with one line, for the whole to be in order.
+//! - `Playing` says what a world has to show and to do with one line, for the whole to be in order.
 //!
 //! The laws: such a history is one of the requests, and the only one but for the room of lists in replies; and a world
 //! that plays line after line by the rules makes it.
