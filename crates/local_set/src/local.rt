@@ -11,6 +11,7 @@ ghost use Rattle.local_set.specs.Holds.{outs, register_holds};
 ghost use Rattle.local_set.specs.Calls.{next_of, IsAt};
 
 mod births;
+mod calls;
 mod collection;
 mod pending;
 mod publishing;

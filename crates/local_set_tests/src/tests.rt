@@ -5,10 +5,11 @@ use crate::rows::Answer::{Block, Done, Gone, Is, Null, Number, Refused};
 use crate::rows::Ask::{Collect, Copy, Drop, Get, Load, Object, Put, Scanned, Store};
 use crate::rows::{Answer, Ask, are_answered};
 use az_base::{BlockId, Misuse, Options, Reg, ThreadNo};
+use block_layouts::Layout;
 use local_set::{Local, LocalErr};
 use std::alloc::Global;
 use std::test::*;
-use zone_model::{Call, Reply};
+use zone_model::{ActionList, Call, Reply};
 
 /// Whether the calls of the rows answer so on a new set of thread 1 under these options.
 fn plays(alloc: Global, thread: ThreadNo, options: Options, rows: &[(Ask, Answer)]) -> bool
@@ -412,5 +413,51 @@ fn a_long_chain_is_dropped_at_its_head(rt: HostRuntime) -> Result<(), Fail> {
     let dropped = builds_a_chain(rt.alloc(), &mut local, 20_000)
         && drops_the_chain(rt.alloc(), &mut local, 20_000);
     assert!(rt; dropped);
+    Ok(())
+}
+
+/// Whether the reply is that one block was reclaimed.
+fn took_one(given: &Result<Reply, LocalErr>) -> bool {
+    match given {
+        Ok(Reply::Reclaimed(ids)) => ids.len() == 1,
+        _ => false,
+    }
+}
+
+/// What a call that is given as a value answers.
+fn ask(alloc: Global, local: &mut Local, call: &Call) -> Result<Reply, LocalErr>
+    requires { local.old.ended ≡ false }
+    ensures { local.new.ended ≡ false }
+{
+    local.call(alloc, call)
+}
+
+/// Whether calls that are given as values are answered: a block is born, dropped and collected, each entry waits, and a
+/// call on what is shared isn't made.
+fn answers_values(alloc: Global, local: &mut Local, reg: Reg, layout: Layout) -> bool
+    requires { local.old.ended ≡ false }
+    ensures { local.new.ended ≡ false }
+{
+    let actions = ActionList::new();
+    let new = Call::New {
+        to: reg,
+        layout,
+        actions,
+    };
+    let born = ask(alloc, local, &new).is_ok();
+    let dropped = ask(alloc, local, &Call::DropReg { reg }).is_ok();
+    let shared = ask(alloc, local, &Call::Retain { reg }).is_err();
+    let gone = took_one(&ask(alloc, local, &Call::CollectLocal));
+    born && dropped && shared && gone && local.pending().len() == 3
+}
+
+#[test]
+fn calls_are_values(rt: HostRuntime) -> Result<(), Fail> {
+    let thread = ThreadNo::new(1).expect(&rt, "a thread");
+    let reg = Reg::new(4).expect(&rt, "a register");
+    let layout = Layout::parse(rt.alloc(), "SS").expect(&rt, "a layout");
+    let mut local = Local::new(rt.alloc(), thread, Options::usual());
+    let answered = answers_values(rt.alloc(), &mut local, reg, layout);
+    assert!(rt; answered);
     Ok(())
 }
