@@ -9,3 +9,8 @@ pub mod ScriptLaws
 pub mod RefusalLaws
 pub mod Found
 pub mod Readings
+pub mod PlainWords
+pub mod PrintedText
+pub mod PrintedNumbers
+pub mod PrintedActs
+pub mod PrintedScripts

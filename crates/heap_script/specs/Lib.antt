@@ -5,4 +5,6 @@ pub mod Causes
 pub mod Refusals
 pub mod Scripts
 pub mod Laws
+pub mod Ranges
+pub mod Printed
 pub mod Reading

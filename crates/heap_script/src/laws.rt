@@ -1,6 +1,7 @@
 //! Laws that say what is read apart from how: exactly the scripts of the grammar are read, and all else is refused at the
 //! first line that lacks what the grammar wants.
 ghost use Rattle.heap_script.specs.Laws.{LinesAreRead, LinesAreRefused, OptionsAreRead, OptionsAreRefused, ScriptsAreRead, ScriptsAreRefused, TextsHaveOneReading};
+ghost use Rattle.heap_script.specs.Printed.{PrintedScriptsAreRead};
 
 use az_words::numbers_are_read;
 use call_words::{arguments_are_read, names_are_read};
@@ -62,3 +63,8 @@ pub fn texts_have_one_reading()
     scripts_are_read();
     scripts_are_refused();
 }
+
+/// A printed script that keeps the limits of scripts is read as the same script.
+pub fn printed_scripts_are_read()
+    ensures { PrintedScriptsAreRead }
+{}

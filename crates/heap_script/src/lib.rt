@@ -11,16 +11,18 @@ mod cause;
 mod entries;
 mod laws;
 mod line;
+mod printing;
 mod reading;
 mod script;
 mod setting;
 
 pub use cause::{Cause, ScriptErr};
 pub use laws::{
-    lines_are_read, lines_are_refused, options_are_read, options_are_refused, scripts_are_read,
-    scripts_are_refused, texts_have_one_reading,
+    lines_are_read, lines_are_refused, options_are_read, options_are_refused,
+    printed_scripts_are_read, scripts_are_read, scripts_are_refused, texts_have_one_reading,
 };
 pub use line::{Line, LineList};
+pub use printing::print;
 pub use reading::parse;
 pub use script::Script;
 pub use zone_model::Act;

@@ -1,6 +1,6 @@
 //! The options that a script sets.
 ghost use Rattle.std.specs.Prelude.{◌≡◌};
-ghost use Rattle.heap_script.specs.Settings.{with_setting};
+ghost use Rattle.heap_script.specs.Settings.{option_text, with_setting};
 ghost use Rattle.heap_script.specs.Reading.Scripts.{option_of};
 ghost use Rattle.call_words.specs.Reading.Calls.{Reads, next_as};
 
@@ -15,6 +15,21 @@ pub enum OptionName {
     Serials,
     Counts,
     Pending,
+}
+
+impl OptionName {
+    /// The option's name in scripts.
+    pub fn text(self) -> &'static str
+        ensures { result.now ≡ option_text self }
+    {
+        match self {
+            OptionName::Heap => "heap",
+            OptionName::Local => "local",
+            OptionName::Serials => "serials",
+            OptionName::Counts => "counts",
+            OptionName::Pending => "pending",
+        }
+    }
 }
 
 /// The option that a word names; None exactly where it names none.

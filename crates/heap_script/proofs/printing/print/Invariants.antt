@@ -1,0 +1,7 @@
+use Rattle.std.proofs.Common.{◌≡◌, ◌++◌, take, string_bytes}
+use Rattle.std.specs.List.{flat_map}
+use Rattle.heap_script.specs.Printed.{line_words, line_text}
+use Rattle.heap_script.proofs.printing.print.Given as goal
+
+abbrev pub invariant-loop-line : goal.invariant-loop-line
+invariant-loop-line l = string_bytes l.out ≡ string_bytes l.initial.out ++ flat_map (λ line. line_text (line_words line)) (take l.line-index l.lines)
