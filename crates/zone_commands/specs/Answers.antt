@@ -1,8 +1,7 @@
 -- What each answer of the program says
-use Rattle.std.specs.Prelude.{◌≡◌, ◌⊎◌, ◌+◌, Bool, false, ℕ, ◌≤◌, ◌<◌, List, [], ◌∷◌, ◌++◌, length, Option, Some, Result, Err, codes}
+use Rattle.std.specs.Prelude.{◌≡◌, ◌⊎◌, ◌+◌, ℕ, ◌≤◌, ◌<◌, List, [], ◌∷◌, ◌++◌, length, Option, Some, Result, Err, codes}
 use Rattle.std.specs.Io.KnownBytes.{Consumes, IsAtEnd}
 use Rattle.std.specs.Fmt.{decimal}
-use Rattle.std.specs.Str.{bytes_eq}
 use Rattle.az_outside.specs.Causes.{Rose}
 use Rattle.az_outside.specs.Bytes.{GrewByFront, Takes}
 use Rattle.zone_model.specs.declared.entry.Entry.{Entry}
@@ -79,12 +78,6 @@ refusal_text cause line = codes "autozone: line " ++ decimal line ++ codes ": " 
 -- what is said of another stop
 abbrev pub told : List ℕ → List ℕ
 told text = codes "autozone: " ++ text ++ 10 ∷ []
-
--- the words are the command `play`
-abbrev pub is_command : List (List ℕ) → Bool
-is_command [] = false
-is_command (word ∷ []) = bytes_eq word (codes "play")
-is_command (word ∷ other ∷ words) = false
 
 -- a fact of the refusal, where there is one
 abbrev pub IfRefused : {T : Type 0} → Result T Stop → (Cause → ℕ → Type 0) → Type 0

@@ -10,6 +10,7 @@ mod command;
 mod saying;
 mod status;
 mod top;
+mod words;
 
 pub use saying::say;
 pub use status::Status;

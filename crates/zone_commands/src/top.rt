@@ -1,22 +1,15 @@
 //! The top call, which does all that the program does.
 ghost use Rattle.std.specs.Prelude.{◌≡◌, ◌↔◌, [], true, false, codes, map, string_bytes};
-ghost use Rattle.zone_commands.specs.Answers.{Ended, Says, told, is_command};
+ghost use Rattle.zone_commands.specs.Answers.{Ended, Says, told};
+ghost use Rattle.zone_commands.specs.CommandLine.{is_command};
 
 use crate::command::{LIMIT, play_command};
 use crate::saying::say;
 use crate::status::Status;
+use crate::words::{Command, read_command};
+use az_base::NoMemory;
 use az_outside::{Sink, Source};
 use std::alloc::Global;
-
-/// Whether the words are the command `play`.
-fn is_play(words: &[String]) -> bool
-    ensures { result ≡ is_command (map string_bytes words.now) }
-{
-    match words {
-        [word] => word.as_str() == "play",
-        _ => false,
-    }
-}
 
 /// Does what the words say, which don't have the program's name: `play` reads a script from the source, plays it, and
 /// writes the text of its history to `out`. Any other words are Usage, and nothing is read. Each status but Done is
@@ -40,9 +33,15 @@ pub fn autozone<S: Source, O: Sink, E: Sink>(
         → Ended LIMIT result (S.left source.old) (S.left source.new) (S.faults source.old) (S.faults source.new)
         (O.grew out.old out.new) (O.faults out.old) (O.faults out.new) (E.grew err.old err.new) (E.faults err.old) (E.faults err.new) }
 {
-    if is_play(words) {
-        return play_command(alloc, source, out, err);
+    match read_command(alloc, words) {
+        Ok(Some(Command::Play)) => play_command(alloc, source, out, err),
+        Ok(None) => {
+            say(err, "autozone: wrong usage\n");
+            Status::Usage
+        }
+        Err(NoMemory) => {
+            say(err, "autozone: no memory\n");
+            Status::NoMemory
+        }
     }
-    say(err, "autozone: wrong usage\n");
-    Status::Usage
 }

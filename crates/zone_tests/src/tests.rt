@@ -182,7 +182,32 @@ fn first_scripts(rt: HostRuntime) -> Result<(), Fail> {
 
 #[test]
 fn other_words_are_wrong_usage(rt: HostRuntime) -> Result<(), Fail> {
-    let rows: [&[&str]; 3] = [&[], &["play", "now"], &["Play"]];
+    let rows: [&[&str]; 24] = [
+        &[],
+        &[""],
+        &["Play"],
+        &["PLAY"],
+        &[" play"],
+        &["help"],
+        &["help", "play"],
+        &["--help"],
+        &["-h"],
+        &["--"],
+        &["-"],
+        &["play", "now"],
+        &["play", ""],
+        &["play", "-h"],
+        &["play", "--"],
+        &["--", "play"],
+        &["play", "1", "2", "3"],
+        &["run"],
+        &["soak"],
+        &["soak", "0", "0"],
+        &["soak", "0", "65537"],
+        &["soak", "18446744073709551616", "1"],
+        &["soak", "7", "1", "1"],
+        &["soak", "7", "-1"],
+    ];
     for words in &rows {
         assert!(rt; is_usage(&rt, words)?);
     }
