@@ -7,6 +7,7 @@ use Rattle.az_base.specs.Ids.{id_cmp, among}
 use Rattle.zone_model.specs.State.{Block}
 use Rattle.zone_model.specs.Part.{Part}
 use Rattle.local_set.specs.Tables.{Distinct}
+use Rattle.local_set.specs.Walks.{VisitsAll, words_at, referents_of}
 use Rattle.escape_plan.specs.declared.search.Search.{Search}
 use Rattle.escape_plan.specs.Planning.{length_at, sum_of, LedFrom}
 
@@ -28,6 +29,10 @@ pub record Counts (m : FinMap id_cmp Block) (s : Search) : Type 0 where
 abbrev pub IsNext : Search → Option BlockId → Type 0
 IsNext s (Some id) = (s.quanta ≤ s.room) × (slice_get s.found.keys (length s.followed.items) ≡ Some id)
 IsNext s None = (s.room < s.quanta) ⊎ (length s.found.keys ≤ length s.followed.items)
+
+-- the blocks to which the words of the block refer were found
+abbrev pub Follows : FinMap id_cmp Block → List BlockId → List BlockId → BlockId → Type 0
+Follows m old new id = VisitsAll m old new (referents_of (words_at m id))
 
 -- what was followed, with lengths and quanta: it is led to from the first blocks, and all of that where it fits into the room
 pub record Found (p : Part) (first : List BlockId) (room : ℕ) (followed : List (BlockId × ℕ)) (n : ℕ) : Type 0 where

@@ -5,8 +5,8 @@ ghost use Rattle.block_layouts.specs.Layouts.{len_of, quanta};
 ghost use Rattle.zone_model.specs.Part.{is_in};
 ghost use Rattle.zone_model.specs.State.{referent};
 ghost use Rattle.local_set.specs.LocalSets.{part_in};
-ghost use Rattle.local_set.specs.Walks.{words_at, Visits, VisitsAll, referents_of};
-ghost use Rattle.escape_plan.specs.Searching.{each_of, with_length, IsNext, Found};
+ghost use Rattle.local_set.specs.Walks.{Visits, VisitsAll, referents_of};
+ghost use Rattle.escape_plan.specs.Searching.{each_of, with_length, IsNext, Follows, Found};
 ghost use Rattle.escape_plan.specs.Planning.{quanta_at};
 
 use az_base::{BlockId, NoMemory, Word};
@@ -122,7 +122,7 @@ impl Search {
         requires own { is_in (part_in local.now) id ≡ true }
         ensures followed { OnOk result (self.new.followed.items ≡ self.old.followed.items ++ with_length (part_in local.now).blocks id ∷ []) }
         ensures quanta { OnOk result (self.new.quanta ≡ self.old.quanta + quanta_at (part_in local.now).blocks id) }
-        ensures visits { OnOk result (VisitsAll (part_in local.now).blocks self.old.found.keys self.new.found.keys (referents_of (words_at (part_in local.now).blocks id))) }
+        ensures visits { OnOk result (Follows (part_in local.now).blocks self.old.found.keys self.new.found.keys id) }
         ensures room { self.new.room ≡ self.old.room }
     {
         let id = &id;
