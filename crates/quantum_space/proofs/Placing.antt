@@ -11,6 +11,13 @@ use Rattle.quantum_space.specs.Regions.{Region', IsRegion, Lies, HasBlock, HasWo
 use Rattle.quantum_space.proofs.Runs.{below_or}
 use Rattle.quantum_space.proofs.Cursors.{three_ways, one_row, row_after, no_bytes, set_cases}
 
+new_first : IsFirstByte new_byte
+new_first = (omega arith, λ e. omega (arith, e), omega arith)
+
+-- an equal byte is one, too
+first_byte : (a b : ℕ) → IsFirstByte a → a ≡ b → IsFirstByte b
+first_byte a b f e = subst (λ (x : ℕ). IsFirstByte x) e f
+
 row_more : (o w : ℕ) → (o + 1) * w ≡ o * w + w
 row_more o w = omega arith
 
@@ -118,7 +125,7 @@ module _ (r : Region') (bytes : List ℕ) (from end : ℕ) (same : SameOutside r
     place = lies.place;
     there = lies.there;
     within = lies.within;
-    begins = (let e : get_or bytes at 0 ≡ get_or r.map.bytes at 0 = same at (apart at (omega arith) (omega (arith, some))) in (omega (arith, e, lies.begins.0), λ z. lies.begins.1 (sym e ∙ z)));
+    begins = (let e : get_or bytes at 0 ≡ get_or r.map.bytes at 0 = same at (apart at (omega arith) (omega (arith, some))) in first_byte (get_or r.map.bytes at 0) _ lies.begins (sym e));
     goes_on = λ k b m. same k (apart k (omega (arith, b)) m) ∙ lies.goes_on k b m;
   }
 
@@ -128,6 +135,17 @@ some_quanta w n = go (n == 0) ((n - 1) / w)
     go : (b : Bool) (x : ℕ) → 0 < (if b then 1 else x + 1)
     go true x = omega arith
     go false x = omega arith
+
+-- no block begins where a hole does
+pub hole_fresh : (r : Region') (n : ℕ) (f : ℕ × ℕ) (at : ℕ) → IsRegion r → 0 < n → IsFirstOf r.map n f → at ≡ f.0 * r.map.size + f.1 → get_or r.layouts at None ≡ None
+hole_fresh r n f at inv some first e = go (get_or r.layouts at None) refl
+  where
+    free : get_or r.map.bytes at 0 ≡ 0
+    free = subst (λ x. get_or r.map.bytes x 0 ≡ 0) (let q : f.0 * r.map.size + f.1 + 0 ≡ at = omega (arith, e) in q) (first.here.hole.1 0 some)
+
+    go : (o : Option Layout) → get_or r.layouts at None ≡ o → get_or r.layouts at None ≡ None
+    go None x = x
+    go (Some l) x = absurd (let b = (inv.blocks at l x).begins.0 in omega (arith, free, b))
 
 -- a region with a block more
 module _ (r : Region') (inv : IsRegion r) (l : Layout) (f : ℕ × ℕ) (at : ℕ) (bytes : List ℕ) (words : List Word)
@@ -165,7 +183,7 @@ module _ (r : Region') (inv : IsRegion r) (l : Layout) (f : ℕ × ℕ) (at : �
     place = place;
     there = first.there;
     within = first.here.hole.0;
-    begins = (omega (arith, new), λ z. (let y : new_byte ≡ further_byte = sym new ∙ z in omega (arith, y)));
+    begins = first_byte new_byte _ new_first (sym new);
     goes_on = further;
   }
 
@@ -425,7 +443,7 @@ region_grown r m ls ws inv g els ews same = record {
       place = lies.place ∙ ap (λ x. lies.subzone * x + lies.quantum) (sym g.size);
       there = omega (arith, lies.there, g.subzones);
       within = omega (arith, lies.within, g.size);
-      begins = (let e = g.same at in (omega (arith, e, lies.begins.0), λ z. lies.begins.1 (sym e ∙ z)));
+      begins = (let e = g.same at in first_byte (get_or r.map.bytes at 0) _ lies.begins (sym e));
       goes_on = λ k b c. g.same k ∙ lies.goes_on k b c;
     }
 

@@ -1,5 +1,5 @@
 -- The admin bytes of the subzones of one kind
-use Rattle.std.specs.Prelude.{◌≡◌, ℕ, ◌+◌, ◌*◌, ◌<◌, ◌≤◌, ◌⊎◌, List, get_or, length}
+use Rattle.std.specs.Prelude.{◌≡◌, ℕ, ◌+◌, ◌*◌, ◌<◌, ◌≤◌, ◌⊎◌, List, get_or, length, slice_range}
 use Rattle.quantum_space.specs.Holes.{IsHole}
 
 -- so many subzones of so many quanta, and their bytes one after another
@@ -7,6 +7,10 @@ pub record AdminMap' : Type 0 where
   pub size : ℕ
   pub subzones : ℕ
   pub bytes : List ℕ
+
+-- the bytes of a subzone
+abbrev pub subzone_bytes : AdminMap' → ℕ → List ℕ
+subzone_bytes m s = slice_range m.bytes (s * m.size) (s * m.size + m.size)
 
 -- so many quanta are free in a subzone from this one on
 abbrev pub IsHoleIn : AdminMap' → ℕ → ℕ → ℕ → Type 0

@@ -1,5 +1,5 @@
 -- The blocks of one kind, by quantum
-use Rattle.std.specs.Prelude.{◌≡◌, ◌≢◌, ℕ, ◌+◌, ◌-◌, ◌*◌, ◌/◌, ◌==◌, ◌<◌, ◌≤◌, ◌⊎◌, List, Option, Some, None, get_or, set, length, if◌then◌else◌, MatchOption, ⊤}
+use Rattle.std.specs.Prelude.{◌≡◌, ◌≢◌, ℕ, ◌+◌, ◌-◌, ◌*◌, ◌/◌, ◌%◌, ◌==◌, ◌<◌, ◌≤◌, ◌⊎◌, List, Option, Some, None, get_or, set, length, if◌then◌else◌, MatchOption, ⊤}
 use Rattle.az_base.specs.declared.word.Class.{Class}
 use Rattle.az_base.specs.declared.word.Class.TheVariants as class
 use Rattle.az_base.specs.declared.word.Word.{Word}
@@ -29,9 +29,9 @@ new_byte = 128
 abbrev pub further_byte : ℕ
 further_byte = 131
 
--- a byte with which a block may begin
+-- a byte with which a block may begin: of a quantum in use, no further one, with an age of at most 3
 abbrev pub IsFirstByte : ℕ → Type 0
-IsFirstByte b = (0 < b) × (b ≢ further_byte)
+IsFirstByte b = (0 < b) × (b ≢ further_byte) × ((b / 4) % 8 ≤ 3)
 
 -- a block with this layout lies at this quantum
 pub record Lies (r : Region') (at : ℕ) (l : Layout) : Type 0 where
@@ -79,6 +79,8 @@ AreNew words from len l = (i : ℕ) → i < len → get_or words (from + i) word
 pub record IsPlaced (old new : Region') (l : Layout) (found : ℕ × ℕ) (at : ℕ) : Type 0 where
   pub hole : IsFirstOf old.map (quanta_in old.width (len_of l)) found
   pub place : at ≡ found.0 * old.map.size + found.1
+  pub inside : at < length old.layouts
+  pub fresh : get_or old.layouts at None ≡ None
   pub opens : ((found.0 < old.opened) × (new.opened ≡ old.opened)) ⊎ ((found.0 ≡ old.opened) × (found.1 ≡ 0) × (new.opened ≡ old.opened + 1))
   pub map : new.map ≡ with_bytes old.map new.map.bytes
   pub width : new.width ≡ old.width

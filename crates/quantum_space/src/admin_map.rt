@@ -7,7 +7,7 @@
 ghost use Rattle.std.specs.Prelude.{ℕ, ◌≡◌, ◌<◌, ◌≤◌, ◌+◌, ◌*◌, ◌^◌, max, length, get_or, set, MatchOption, OnOk, OnErr, []};
 ghost use Rattle.std.specs.Vec.{vec_capacity};
 ghost use Rattle.quantum_space.specs.Holes.{IsFirstHole, NoHoleWithin};
-ghost use Rattle.quantum_space.specs.AdminMaps.{AllAre, HasNoHole, IsChanged, IsFirstIn, IsFirstOf, IsGrown, IsLength, SameOutside, with_bytes};
+ghost use Rattle.quantum_space.specs.AdminMaps.{AllAre, HasNoHole, IsChanged, IsFirstIn, IsFirstOf, IsGrown, IsLength, SameOutside, subzone_bytes, with_bytes};
 
 use crate::holes::first_hole;
 use az_base::NoMemory;
@@ -137,6 +137,15 @@ impl AdminMap {
         ensures { result ≡ self.now.size }
     {
         self.size
+    }
+
+    /// The bytes of a subzone. O(1).
+    pub fn subzone_bytes(&self, subzone: usize) -> &[u8]
+        requires { subzone < self.now.subzones }
+        ensures { result.now ≡ subzone_bytes self.now subzone }
+    {
+        let from = subzone * self.size;
+        &self.bytes[from..from + self.size]
     }
 
     /// The byte of a quantum, by its number in the list. O(1).

@@ -25,5 +25,5 @@ pub use admin::{Admin, AdminFlags, bytes_tell_what_was_noted};
 pub use graph::{Found, Graph};
 pub use greys::Greys;
 pub use place::{Place, places_are_ordered_by_subzone};
-pub use region::{Region, blocks_lie_apart};
+pub use region::{Region, blocks_lie_apart, quanta_in};
 pub use shade::Shade;

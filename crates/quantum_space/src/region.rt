@@ -1,9 +1,10 @@
 //! The blocks of one kind: their admin bytes, layouts and words, each in one list by quantum. A block's words begin at
 //! its first quantum.
-ghost use Rattle.std.specs.Prelude.{ℕ, ◌≡◌, ◌≢◌, ◌<◌, ◌≤◌, ◌+◌, ◌-◌, ◌*◌, length, get_or, set, None, Some, ◌^◌, ◌⊎◌, IfSome, IsTrue, MatchOption, OnOk, OnErr};
+ghost use Rattle.std.specs.Prelude.{ℕ, ◌≡◌, ◌≢◌, ◌<◌, ◌≤◌, ◌+◌, ◌-◌, ◌*◌, length, get_or, set, None, Some, ◌^◌, ◌⊎◌, IfSome, IsTrue, is_some, MatchOption, OnOk, OnErr};
 ghost use Rattle.block_layouts.specs.Layouts.{len_of};
 ghost use Rattle.block_layouts.specs.declared.layout.Layout.{Layout as ALayout};
 ghost use Rattle.quantum_space.specs.Regions.{AreNew, IsRegion, Lies, Region', HasBlock, HasWord, IsFirstByte, IsFreed, IsPlaced, IsRoomier, SameWords, new_word, quanta_in, room_of, with_byte, with_word};
+ghost use Rattle.quantum_space.specs.AdminMaps.{subzone_bytes};
 ghost use Rattle.std.specs.Vec.{vec_capacity};
 ghost use Rattle.az_base.specs.declared.word.Word.TheVariants.{Null};
 
@@ -40,7 +41,7 @@ impl Model for Region {
 }
 
 /// The quanta of a block of so many words, where a quantum has so many. O(1).
-fn quanta_in(width: usize, len: usize) -> usize
+pub fn quanta_in(width: usize, len: usize) -> usize
     requires { 0 < width }
     ensures { result ≡ quanta_in width len }
 {
@@ -157,7 +158,7 @@ impl Region {
 
 impl Region {
     /// The quanta for which there is room, and 31 more, however blocks of up to 32 come. O(1).
-    fn room(&self) -> usize
+    pub fn room(&self) -> usize
         ensures value { result ≡ room_of self.now }
         ensures large { 64 ≤ self.now.map.size }
     {
@@ -166,8 +167,9 @@ impl Region {
     }
 
     /// One subzone more. NoMemory leaves all as it was. O(its quanta and words).
-    fn grow(&mut self) -> Result<(), NoMemory>
+    pub fn grow(&mut self) -> Result<(), NoMemory>
         ensures same { IsRoomier self.old self.new }
+        ensures one { self.new.map.subzones ≤ self.old.map.subzones + 1 }
         ensures room { OnOk result (room_of self.old + (self.old.map.size - 31) ≤ room_of self.new) }
         ensures err { OnErr result (self.new ≡ self.old) }
     {
@@ -189,8 +191,17 @@ impl Region {
         Ok(())
     }
 
-    /// Frees a block. O(its quanta).
-    pub fn free(&mut self, subzone: usize, quantum: usize)
+    /// Frees the block that begins at a quantum. O(its quanta).
+    pub fn free(&mut self, at: usize)
+        requires { HasBlock self.old at }
+        ensures { IfSome (get_or self.old.layouts at None) (λ l. IsFreed self.old self.new l at) }
+    {
+        let size = self.map.size();
+        self.free_in(at / size, at % size);
+    }
+
+    /// Frees the block that begins at a quantum of a subzone.
+    fn free_in(&mut self, subzone: usize, quantum: usize)
         requires there { subzone < self.old.map.subzones }
         requires within { quantum < self.old.map.size }
         requires block { HasBlock self.old (subzone * self.old.map.size + quantum) }
@@ -232,7 +243,8 @@ impl Region {
     /// The admin byte of a quantum at which a block begins. O(1).
     pub fn byte(&self, at: usize) -> u8
         requires { HasBlock self.now at }
-        ensures { result ≡ get_or self.now.map.bytes at 0 }
+        ensures value { result ≡ get_or self.now.map.bytes at 0 }
+        ensures first { IsFirstByte result }
     {
         self.map.byte(at)
     }
@@ -269,6 +281,25 @@ impl Region {
         Ok(())
     }
 
+    /// How many subzones were not yet opened. O(1).
+    pub fn unopened(&self) -> usize
+        ensures value { result ≡ self.now.map.subzones - self.now.opened }
+        ensures whole { IsRegion self.now }
+    {
+        self.map.subzones() - self.opened
+    }
+
+    /// The admin bytes of a subzone; None exactly where it was not opened. O(1).
+    pub fn subzone_bytes(&self, subzone: usize) -> Option<&[u8]>
+        ensures { MatchOption result (self.now.opened ≤ subzone) (λ bytes. (subzone < self.now.opened) × (bytes.now ≡ subzone_bytes self.now.map subzone)) }
+    {
+        if subzone < self.opened {
+            Some(self.map.subzone_bytes(subzone))
+        } else {
+            None
+        }
+    }
+
     /// The quanta of a block with a layout, in this kind of subzones. O(1).
     pub fn quanta(&self, layout: &Layout) -> usize
         ensures value { result ≡ quanta_in self.now.width (len_of layout.now) }
@@ -277,9 +308,10 @@ impl Region {
         quanta_in(self.width, layout.len() as usize)
     }
 
-    /// Whether a block begins at a quantum.
-    fn begins_at(&self, at: usize) -> bool
-        ensures { IsTrue result → HasBlock self.now at }
+    /// Whether a block begins at a quantum. O(1).
+    pub fn begins_at(&self, at: usize) -> bool
+        ensures value { result ≡ is_some (get_or self.now.layouts at None) }
+        ensures block { IsTrue result → HasBlock self.now at }
     {
         match self.layout(at) {
             Some(_) => true,

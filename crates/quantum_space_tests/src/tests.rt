@@ -42,7 +42,7 @@ fn are_placed(region: &mut Region, rows: &[(u32, usize)]) -> bool {
 /// Frees the block at a quantum of the first subzone, and says whether there was one.
 fn free(region: &mut Region, quantum: usize) -> bool {
     if region.has_block(0, quantum) {
-        region.free(0, quantum);
+        region.free(quantum);
         true
     } else {
         false

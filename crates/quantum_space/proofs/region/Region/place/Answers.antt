@@ -2,7 +2,7 @@ use Rattle.std.proofs.Common.{◌≡◌, ◌⊎◌, ◌+◌, ◌*◌, ◌<◌, �
 use Rattle.block_layouts.specs.Layouts.{len_of}
 use Rattle.quantum_space.specs.AdminMaps.{AdminMap', AllAre, IsFirstOf, SameOutside}
 use Rattle.quantum_space.specs.Regions.{Region', IsPlaced, quanta_in, room_of, further_byte}
-use Rattle.quantum_space.proofs.Placing.{room_hole, some_quanta, region_placed, opens_where, room_after, words_inside, quanta_inside, Written, written, same_region, same_room}
+use Rattle.quantum_space.proofs.Placing.{hole_fresh, room_hole, some_quanta, region_placed, opens_where, room_after, words_inside, quanta_inside, Written, written, same_region, same_room}
 use Rattle.quantum_space.proofs.region.Region.place.Goals as goal
 
 pub unreachable-requires : goal.unreachable-requires
@@ -71,6 +71,8 @@ returns-clause-placed c =
     let p : IsPlaced r new l (c.in-Some.subzone, c.in-Some.quantum) k = record {
       hole = f;
       place = at;
+      inside = omega (arith, inside, c.self.invariant.layouts, some_quanta i.width (len_of l));
+      fresh = hole_fresh r (quanta_in i.width (len_of l)) (c.in-Some.subzone, c.in-Some.quantum) k c.self.invariant (some_quanta i.width (len_of l)) f at;
       opens = subst (λ o. ((c.in-Some.subzone < i.opened) × (o ≡ i.opened)) ⊎ ((c.in-Some.subzone ≡ i.opened) × (c.in-Some.quantum ≡ 0) × (o ≡ i.opened + 1))) (sym c.max-self-inside.ensures)
           (opens_where r c.self.invariant l (c.in-Some.subzone, c.in-Some.quantum) k c.fill.new.self.bytes c.write_new.new.words.items f at few v.count c.write_new.ensures.length v.new further same);
       map = v.is;

@@ -4,7 +4,7 @@ use Rattle.block_layouts.specs.Layouts.{len_of}
 use Rattle.quantum_space.specs.AdminMaps.{AllAre, SameOutside}
 use Rattle.quantum_space.specs.Regions.{Region', HasBlock, quanta_in}
 use Rattle.quantum_space.proofs.Placing.{block_inside, changed_map, ends_within, region_freed, same_region}
-use Rattle.quantum_space.proofs.region.Region.free.Goals as goal
+use Rattle.quantum_space.proofs.region.Region.free_in.Goals as goal
 
 pub clear-requires-clause-within : goal.clear-requires-clause-within
 clear-requires-clause-within c =

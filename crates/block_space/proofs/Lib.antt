@@ -1,0 +1,5 @@
+pub mod Keeping
+pub mod Mapping
+pub mod Opening
+pub mod Still
+pub mod Sums

@@ -1,0 +1,16 @@
+use Rattle.std.proofs.Common.{◌+◌, ◌<◌, ◌^◌, sym, subst, ℕ, List}
+use Rattle.block_space.specs.declared.table.Kind.{Kind}
+use Rattle.block_space.specs.Spaces.{Space', IsCovered, IsSpace, kind_quanta, list_quanta, region}
+use Rattle.block_space.proofs.Keeping.{more_come}
+use Rattle.block_space.proofs.space.Space.extend.Goals.{in-Ok, in-Err}
+use Rattle.block_space.proofs.space.Space.extend.Goals as goal
+
+pub invariant_of-self : goal.invariant_of-self
+invariant_of-self c =
+    let i = c.self.inside in
+    let few = subst (λ (v : Space'). v.used + list_quanta v.spare + list_quanta c.args.lengths.now < 2 ^ 32) (sym c.self.view_is) c.requires.few in
+    let covered = subst (λ (v : Space'). (k : Kind) → IsCovered (kind_quanta k v.spare + kind_quanta k c.args.lengths.now) (region v k)) (sym c.self.view_is) c.requires.covered in
+    elim c.match-extend.branch [
+      | in-Ok w ↦ more_come _ c.args.lengths.now c.extend.new.self c.self.invariant c.requires.lengths few w.in-Ok.ensures.ok covered
+      | in-Err w ↦ subst (λ (x : List ℕ). IsSpace (record { small = i.small; medium = i.medium; table = i.table; spare = x; used = i.used })) (sym w.in-Err.ensures.err) c.self.invariant
+    ]

@@ -1,0 +1,36 @@
+-- A space as a map from places to blocks
+use Rattle.std.specs.Prelude.{◌≡◌, ◌≢◌, ℕ, ◌<◌, ◌⊎◌, Some, None}
+use Rattle.block_layouts.specs.declared.layout.Layout.{Layout}
+use Rattle.block_layouts.specs.Layouts.{class_at, len_of}
+use Rattle.quantum_space.specs.declared.place.Place.{Place}
+use Rattle.quantum_space.specs.Regions.{IsRegion, new_byte, new_word}
+use Rattle.block_space.specs.declared.table.Kind.{Kind}
+use Rattle.block_space.specs.Tables.{IsTable}
+use Rattle.block_space.specs.Spaces.{Space', IsSpace, byte_at, layout_at, region, word_at}
+
+-- what holds of each space and of its parts
+pub record IsSound (s : Space') : Type 0 where
+  pub space : IsSpace s
+  pub table : IsTable s.table
+  pub regions : (k : Kind) → IsRegion (region s k)
+
+-- a block is at its place as it was
+pub record IsSameBlock (s new : Space') (q : Place) (o : Layout) : Type 0 where
+  pub layout : layout_at new q ≡ Some o
+  pub byte : byte_at new q ≡ byte_at s q
+  pub words : (i : ℕ) → i < len_of o → word_at new q i ≡ word_at s q i
+
+-- one block has come, with the words and the byte of a new one, and all others are as they were
+pub record HasBlockMore (s new : Space') (l : Layout) (p : Place) : Type 0 where
+  pub fresh : layout_at s p ≡ None
+  pub layout : layout_at new p ≡ Some l
+  pub byte : byte_at new p ≡ new_byte
+  pub words : (i : ℕ) → i < len_of l → word_at new p i ≡ new_word (class_at l i)
+  pub others : (q : Place) (o : Layout) → layout_at s q ≡ Some o → IsSameBlock s new q o
+  pub only : (q : Place) (o : Layout) → layout_at new q ≡ Some o → (q ≡ p) ⊎ (layout_at s q ≡ Some o)
+
+-- one block has gone, and all others are as they were
+pub record HasBlockLess (s new : Space') (p : Place) : Type 0 where
+  pub gone : layout_at new p ≡ None
+  pub others : (q : Place) (o : Layout) → q ≢ p → layout_at s q ≡ Some o → IsSameBlock s new q o
+  pub only : (q : Place) (o : Layout) → layout_at new q ≡ Some o → layout_at s q ≡ Some o

@@ -1,0 +1,205 @@
+-- Blocks at their places
+use Rattle.std.specs.Prelude.{◌≡◌, ◌≢◌, ℕ, ◌+◌, ◌-◌, ◌*◌, ◌<◌, ◌≤◌, ◌⊎◌, ◌^◌, ◌∷◌, ◌++◌, [], List, Option, Some, None, get_or, slice_get, length, if◌then◌else◌, nat_le, nat_lt, MatchOption, IfSome, Bool, true, false, drop, take}
+use Rattle.std.specs.Option.{option_and_then, option_map_or}
+use Rattle.az_base.specs.declared.word.Word.{Word}
+use Rattle.az_base.specs.declared.word.Word.TheVariants as word
+use Rattle.block_layouts.specs.declared.layout.Layout.{Layout}
+use Rattle.block_layouts.specs.Layouts.{len_of, quanta}
+use Rattle.quantum_space.specs.declared.admin.Admin.{Admin}
+use Rattle.quantum_space.specs.declared.place.Place.{Place}
+use Rattle.quantum_space.specs.declared.shade.Shade.{Shade}
+use Rattle.quantum_space.specs.AdminBytes.{admin_byte, admin_of}
+use Rattle.quantum_space.specs.AdminMaps.{subzone_bytes}
+use Rattle.quantum_space.specs.Regions.{Region', HasBlock, HasWord, IsFreed, IsPlaced, IsRoomier, quanta_in, room_of, with_byte, with_word}
+use Rattle.block_space.specs.declared.space.Spot.{Spot}
+use Rattle.block_space.specs.declared.table.Kind.{Kind}
+use Rattle.block_space.specs.declared.table.Kind.TheVariants as kind
+use Rattle.block_space.specs.declared.table.Subzone.{Subzone}
+use Rattle.block_space.specs.Tables.{Table', numbers, opened_with}
+
+-- the blocks of both kinds; the numbers of their subzones; the lengths of blocks for which there is room; and the small quanta that the blocks take
+pub record Space' : Type 0 where
+  pub small : Region'
+  pub medium : Region'
+  pub table : Table'
+  pub spare : List ℕ
+  pub used : ℕ
+
+-- the kind of subzones in which a block of so many words lies: small up to 64 words
+abbrev pub kind_of : ℕ → Kind
+kind_of n = if nat_le n 64 then kind.Small else kind.Medium
+
+-- the quanta of a kind's subzone
+abbrev pub size_of : Kind → ℕ
+size_of kind.Small = 4096
+size_of kind.Medium = 256
+
+-- the words of a kind's quantum
+abbrev pub width_of : Kind → ℕ
+width_of kind.Small = 2
+width_of kind.Medium = 128
+
+-- the blocks of a kind
+abbrev pub region : Space' → Kind → Region'
+region s kind.Small = s.small
+region s kind.Medium = s.medium
+
+-- with other blocks of a kind
+abbrev pub with_region : Space' → Kind → Region' → Space'
+with_region s kind.Small r = record { small = r; medium = s.medium; table = s.table; spare = s.spare; used = s.used }
+with_region s kind.Medium r = record { small = s.small; medium = r; table = s.table; spare = s.spare; used = s.used }
+
+-- a quantum of a kind
+abbrev pub spot_at : Kind → ℕ → Spot
+spot_at k at = record { kind = k; at = at }
+
+-- a quantum of a subzone, counted over all subzones of its kind; None past the subzone's end
+abbrev pub spot_in : Subzone → ℕ → Option Spot
+spot_in z q = if nat_lt q (size_of z.kind) then Some (spot_at z.kind (z.index * size_of z.kind + q)) else None
+
+-- where a place is among those of its kind; None where there is no such subzone, or it has no such quantum
+abbrev pub spot_of : Space' → Place → Option Spot
+spot_of s p = option_and_then (λ z. spot_in z p.quantum) (slice_get s.table.subzones p.subzone)
+
+-- the layout of the block at a place, if there is one
+abbrev pub layout_at : Space' → Place → Option Layout
+layout_at s p = option_and_then (λ x. get_or (region s x.kind).layouts x.at None) (spot_of s p)
+
+-- a block lies at the place
+abbrev pub HasBlockAt : Space' → Place → Type 0
+HasBlockAt s p = MatchOption (spot_of s p) ⊥ (λ x. HasBlock (region s x.kind) x.at)
+
+-- a block with such a word lies at the place
+abbrev pub HasWordAt : Space' → Place → ℕ → Type 0
+HasWordAt s p i = MatchOption (spot_of s p) ⊥ (λ x. HasWord (region s x.kind) x.at i)
+
+-- a word of the block at a place
+abbrev pub word_at : Space' → Place → ℕ → Word
+word_at s p i = option_map_or (λ x. get_or (region s x.kind).words (x.at * (region s x.kind).width + i) word.Null) (spot_of s p) word.Null
+
+-- the admin byte of a quantum, 0 where there is no such quantum
+abbrev pub byte_at : Space' → Place → ℕ
+byte_at s p = option_map_or (λ x. get_or (region s x.kind).map.bytes x.at 0) (spot_of s p) 0
+
+-- what is noted of the block at a place
+abbrev pub admin_at : Space' → Place → Admin
+admin_at s p = admin_of (byte_at s p)
+
+-- the quanta of a block of so many words in a kind's subzones; none of another kind
+abbrev pub kind_length : Kind → ℕ → ℕ
+kind_length kind.Small n = if nat_le n 64 then quanta_in 2 n else 0
+kind_length kind.Medium n = if nat_le n 64 then 0 else quanta_in 128 n
+
+-- the quanta of blocks of these lengths in a kind's subzones
+abbrev pub kind_quanta : Kind → List ℕ → ℕ
+kind_quanta k [] = 0
+kind_quanta k (n ∷ ns) = kind_length k n + kind_quanta k ns
+
+-- the small quanta of blocks of these lengths
+abbrev pub list_quanta : List ℕ → ℕ
+list_quanta [] = 0
+list_quanta (n ∷ ns) = quanta n + list_quanta ns
+
+-- the small quanta of the blocks in a list
+abbrev pub block_quanta : List (Option Layout) → ℕ
+block_quanta [] = 0
+block_quanta (o ∷ os) = option_map_or (λ l. quanta (len_of l)) o 0 + block_quanta os
+
+-- each is a length that a layout may have
+abbrev pub AreLengths : List ℕ → Type 0
+AreLengths ns = (k : ℕ) → get_or ns k 0 ≤ 4096
+
+-- room enough for so many quanta, however they come
+abbrev pub IsCovered : ℕ → Region' → Type 0
+IsCovered n r = (n ≡ 0) ⊎ (n + 31 ≤ room_of r)
+
+-- what holds of each space
+pub record IsSpace (s : Space') : Type 0 where
+  pub opened : (k : Kind) → length (numbers s.table k) ≡ (region s k).opened
+  pub size : (k : Kind) → (region s k).map.size ≡ size_of k
+  pub width : (k : Kind) → (region s k).width ≡ width_of k
+  pub used : s.used ≡ block_quanta s.small.layouts + block_quanta s.medium.layouts
+  pub few : s.used + list_quanta s.spare < 2 ^ 32
+  pub lengths : AreLengths s.spare
+  pub covered : (k : Kind) → IsCovered (kind_quanta k s.spare) (region s k)
+  pub unopened : (s.small.map.subzones - s.small.opened) + (s.medium.map.subzones - s.medium.opened) ≤ s.table.room
+  pub rooms : s.table.room < 2 ^ 32
+
+-- a block was placed in the first hole of its kind's subzones, in one that was opened or in a new one
+pub record IsPlacedIn (r new : Region') (t after : Table') (k : Kind) (l : Layout) (p : Place) : Type 0 where
+  pub index : ℕ
+  pub placed : IsPlaced r new l (index, p.quantum) (index * r.map.size + p.quantum)
+  pub number : (index < length (numbers after k)) × (p.subzone ≡ get_or (numbers after k) index 0)
+  pub table : ((index < r.opened) × (after ≡ t)) ⊎ ((index ≡ r.opened) × (after ≡ opened_with t k))
+
+-- the other kind
+abbrev pub other : Kind → Kind
+other kind.Small = kind.Medium
+other kind.Medium = kind.Small
+
+-- a block was placed for the first of the lengths
+pub record IsPlacedAt (s new : Space') (l : Layout) (p : Place) : Type 0 where
+  pub placed : IsPlacedIn (region s (kind_of (len_of l))) (region new (kind_of (len_of l))) s.table new.table (kind_of (len_of l)) l p
+  pub others : region new (other (kind_of (len_of l))) ≡ region s (other (kind_of (len_of l)))
+  pub spare : new.spare ≡ drop 1 s.spare
+  pub used : new.used ≡ s.used + quanta (len_of l)
+
+-- with other blocks of a kind, other numbers, other lengths of blocks to come, and another sum
+abbrev pub altered : Space' → Kind → Region' → Table' → List ℕ → ℕ → Space'
+altered s kind.Small r t ns n = record { small = r; medium = s.medium; table = t; spare = ns; used = n }
+altered s kind.Medium r t ns n = record { small = s.small; medium = r; table = t; spare = ns; used = n }
+
+-- a block was freed
+pub record IsFreedAt (s new : Space') (l : Layout) (x : Spot) : Type 0 where
+  pub freed : IsFreed (region s x.kind) (region new x.kind) l x.at
+  pub others : region new (other x.kind) ≡ region s (other x.kind)
+  pub table : new.table ≡ s.table
+  pub spare : new.spare ≡ s.spare
+  pub used : new.used + quanta (len_of l) ≡ s.used
+
+-- the block at a place was freed
+abbrev pub IsTakenOff : Space' → Space' → Place → Type 0
+IsTakenOff s new p = MatchOption (spot_of s p) ⊥ (λ x. IfSome (get_or (region s x.kind).layouts x.at None) (λ l. IsFreedAt s new l x))
+
+-- the same blocks, with as much room or more
+pub record IsRoomierSpace (s new : Space') : Type 0 where
+  pub each : (k : Kind) → IsRoomier (region s k) (region new k)
+  pub subzones : new.table.subzones ≡ s.table.subzones
+  pub numbers : (k : Kind) → numbers new.table k ≡ numbers s.table k
+  pub used : new.used ≡ s.used
+
+-- with another byte for the block at a place
+abbrev pub with_byte_at : Space' → Place → ℕ → Space'
+with_byte_at s p byte = option_map_or (λ x. with_region s x.kind (with_byte (region s x.kind) x.at byte)) (spot_of s p) s
+
+-- with something else noted of the block at a place
+abbrev pub with_admin : Space' → Place → Admin → Space'
+with_admin s p a = with_byte_at s p (admin_byte a)
+
+-- with another word of the block at a place
+abbrev pub with_word_at : Space' → Place → ℕ → Word → Space'
+with_word_at s p i w = option_map_or (λ x. with_region s x.kind (with_word (region s x.kind) x.at i w)) (spot_of s p) s
+
+-- the same with another shade
+abbrev pub with_shade : Admin → Shade → Admin
+with_shade a x = record { shade = x; age = a.age; card = a.card; finalised = a.finalised }
+
+-- the same with another age
+abbrev pub with_age : Admin → ℕ → Admin
+with_age a n = record { shade = a.shade; age = n; card = a.card; finalised = a.finalised }
+
+-- the same, remembered or not
+abbrev pub with_card : Admin → Bool → Admin
+with_card a on = record { shade = a.shade; age = a.age; card = on; finalised = a.finalised }
+
+-- the same, its finaliser has run
+abbrev pub with_finalised : Admin → Admin
+with_finalised a = record { shade = a.shade; age = a.age; card = a.card; finalised = true }
+
+-- with these lengths of blocks to come
+abbrev pub with_spare : Space' → List ℕ → Space'
+with_spare s ns = record { small = s.small; medium = s.medium; table = s.table; spare = ns; used = s.used }
+
+-- these are the admin bytes of the subzone with this number
+abbrev pub IsSubzoneMap : Space' → ℕ → List ℕ → Type 0
+IsSubzoneMap s n bytes = MatchOption (slice_get s.table.subzones n) ⊥ (λ z. bytes ≡ subzone_bytes (region s z.kind).map z.index)

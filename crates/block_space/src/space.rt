@@ -1,0 +1,573 @@
+//! The blocks of a zone, each at its place.
+ghost use Rattle.std.specs.Prelude.{ℕ, ◌≡◌, ◌<◌, ◌≤◌, ◌+◌, ◌*◌, ◌++◌, ◌∷◌, [], length, get_or, slice_get, OnOk, OnErr, Some, None, MatchOption, IfSome, IsTrue, is_some, ◌^◌};
+ghost use Rattle.std.specs.Option.{option_and_then};
+ghost use Rattle.block_layouts.specs.Layouts.{len_of, quanta};
+ghost use Rattle.quantum_space.specs.Regions.{Region', HasBlock, HasWord, IsRoomier, quanta_in, room_of};
+ghost use Rattle.quantum_space.specs.AdminBytes.{admin_of};
+ghost use Rattle.block_space.specs.Tables.{Table', numbers, opened_with};
+ghost use Rattle.block_space.specs.Spaces.{Space', kind_of, size_of, width_of, region, spot_at, spot_in, spot_of, layout_at, word_at, byte_at, admin_at, HasBlockAt, HasWordAt, IsRoomierSpace, IsFreedAt, IsTakenOff, IsPlacedAt, IsPlacedIn, IsSubzoneMap, AreLengths, IsCovered, block_quanta, kind_length, kind_quanta, list_quanta, with_admin, with_word_at, with_shade, with_age, with_card, with_finalised, with_spare};
+ghost use Rattle.block_space.specs.Maps.{HasBlockLess, HasBlockMore, IsSound};
+ghost use Rattle.quantum_space.specs.declared.place.Place.{Place as APlace};
+ghost use Rattle.block_space.specs.declared.table.Kind.{Kind as AKind};
+
+use crate::spare::Spare;
+use crate::table::{Kind, Subzone, Table};
+use az_base::{NoMemory, Word};
+use block_layouts::Layout;
+use quantum_space::{Admin, Place, Region, Shade, quanta_in};
+use std::alloc::Global;
+use std::marker::Model;
+
+/// The quanta of a small subzone, and the words of a small quantum.
+const SMALL_QUANTA: usize = 4096;
+
+const SMALL_WORDS: usize = 2;
+
+/// The quanta of a medium subzone, and the words of a medium quantum.
+const MEDIUM_QUANTA: usize = 256;
+
+const MEDIUM_WORDS: usize = 128;
+
+/// The most words of a block.
+const MOST_WORDS: u32 = 4096;
+
+/// Where a block lies among those of its kind: the number of its first quantum, over all subzones of the kind.
+#[derive(Clone, Copy)]
+pub struct Spot {
+    pub kind: Kind,
+    pub at: usize,
+}
+
+/// The blocks at their places, the lengths of those for which there is room, and how many small quanta the blocks take.
+#[derive(Drop)]
+pub struct Space {
+    small: Region,
+    medium: Region,
+    table: Table,
+    spare: Spare,
+    used: u32,
+}
+
+impl Model for Space {
+    ghost use Rattle.block_space.specs.Spaces.{Space', IsSpace};
+
+    ghost Value = { Space' };
+
+    ghost view = { λ s. record { small = s.small; medium = s.medium; table = s.table; spare = s.spare; used = s.used } };
+
+    ghost invariant = { λ s. IsSpace (record { small = s.small; medium = s.medium; table = s.table; spare = s.spare; used = s.used }) };
+}
+
+/// The kind of subzones in which a block of so many words lies.
+fn kind_of(words: u32) -> Kind
+    ensures { result ≡ kind_of words }
+{
+    if words <= 64 {
+        Kind::Small
+    } else {
+        Kind::Medium
+    }
+}
+
+/// The quanta of a kind's subzones.
+fn size_of(kind: Kind) -> usize
+    ensures { result ≡ size_of kind }
+{
+    match kind {
+        Kind::Small => SMALL_QUANTA,
+        Kind::Medium => MEDIUM_QUANTA,
+    }
+}
+
+/// The small quanta of a block of so many words.
+fn small_quanta(words: u32) -> u32
+    requires { words ≤ 4096 }
+    ensures value { result ≡ quanta words }
+    ensures range { result ≤ 2048 }
+{
+    if words == 0 {
+        1
+    } else if words <= 64 {
+        words.div_ceil(2)
+    } else {
+        64 * words.div_ceil(128)
+    }
+}
+
+/// The small quanta of blocks of these lengths; None only where one is longer than a layout may be, or the sum is 2^32 or
+/// more. O(their number).
+fn list_quanta(lengths: &[u32]) -> Option<u32>
+    ensures value { IfSome result (λ sum. sum ≡ list_quanta lengths.now) }
+    ensures lengths { IfSome result (λ _. AreLengths lengths.now) }
+{
+    let mut sum: u32 = 0;
+    for words in lengths {
+        if *words > MOST_WORDS {
+            return None;
+        }
+        sum = sum.checked_add(small_quanta(*words))?;
+    }
+    Some(sum)
+}
+
+/// A quantum of a subzone, counted over all subzones of its kind; None past the subzone's end.
+fn spot_in(subzone: Subzone, quantum: u32) -> Option<Spot>
+    ensures { result ≡ spot_in subzone quantum }
+{
+    let size = size_of(subzone.kind);
+    let quantum = quantum as usize;
+    if quantum < size {
+        Some(Spot {
+            kind: subzone.kind,
+            at: subzone.index as usize * size + quantum,
+        })
+    } else {
+        None
+    }
+}
+
+/// Puts a block into the first hole of its kind's subzones, and says its place.
+fn place_in(region: &mut Region, table: &mut Table, kind: Kind, layout: Layout) -> Place
+    requires few { quanta_in region.old.width (len_of layout) ≤ 32 }
+    requires room { quanta_in region.old.width (len_of layout) + 31 ≤ room_of region.old }
+    requires size { region.old.map.size ≤ 4096 }
+    requires opened { length (numbers table.old kind) ≡ region.old.opened }
+    requires unopened { region.old.map.subzones ≤ region.old.opened + table.old.room }
+    ensures placed { IsPlacedIn region.old region.new table.old table.new kind layout result }
+    ensures room { room_of region.old ≤ room_of region.new + quanta_in region.old.width (len_of layout) }
+{
+    let (index, quantum) = region.place(layout);
+    if index == table.count(kind) {
+        table.open(kind);
+    }
+    let subzone = table.number(kind, index);
+    Place {
+        subzone,
+        quantum: quantum as u32,
+    }
+}
+
+/// The quanta of a block of so many words in a kind's subzones, 0 for the other kind's.
+fn kind_length(kind: Kind, words: u32) -> usize
+    requires { words ≤ 4096 }
+    ensures value { result ≡ kind_length kind words }
+    ensures few { result ≤ quanta words }
+{
+    let words = words as usize;
+    match kind {
+        Kind::Small => {
+            if words <= 64 {
+                quanta_in(SMALL_WORDS, words)
+            } else {
+                0
+            }
+        }
+        Kind::Medium => {
+            if words <= 64 {
+                0
+            } else {
+                quanta_in(MEDIUM_WORDS, words)
+            }
+        }
+    }
+}
+
+/// The quanta of blocks of these lengths in a kind's subzones. O(their number).
+fn kind_quanta(kind: Kind, lengths: &[u32]) -> usize
+    requires lengths { AreLengths lengths.now }
+    requires few { list_quanta lengths.now < 2 ^ 32 }
+    ensures value { result ≡ kind_quanta kind lengths.now }
+    ensures few { result ≤ list_quanta lengths.now }
+{
+    let mut sum = 0;
+    for words in lengths {
+        sum += kind_length(kind, *words);
+    }
+    sum
+}
+
+impl Space {
+    /// No subzone.
+    pub fn new(alloc: Global) -> Space
+        ensures none { (p : APlace) → layout_at result p ≡ None }
+        ensures subzones { result.table.subzones ≡ [] }
+        ensures spare { result.spare ≡ [] }
+        ensures used { result.used ≡ 0 }
+    {
+        Space {
+            small: Region::new(alloc, SMALL_QUANTA, SMALL_WORDS),
+            medium: Region::new(alloc, MEDIUM_QUANTA, MEDIUM_WORDS),
+            table: Table::new(alloc),
+            spare: Spare::new(alloc),
+            used: 0,
+        }
+    }
+
+    /// Room in a kind's subzones, and 31 quanta more.
+    fn room(&self, kind: Kind) -> usize
+        ensures { result ≡ room_of (region self.now kind) }
+    {
+        match kind {
+            Kind::Small => self.small.room(),
+            Kind::Medium => self.medium.room(),
+        }
+    }
+
+    /// One subzone more of a kind, that is not yet opened. NoMemory leaves all blocks as they were.
+    fn grow(&mut self, kind: Kind) -> Result<(), NoMemory>
+        ensures same { IsRoomierSpace self.old self.new }
+        ensures spare { self.new.spare ≡ self.old.spare }
+        ensures room { OnOk result (room_of (region self.old kind) < room_of (region self.new kind)) }
+    {
+        let unopened = self.small.unopened() + self.medium.unopened();
+        let Ok(count) = u32::try_from(unopened + 1) else {
+            return Err(NoMemory);
+        };
+        self.table.reserve(count)?;
+        match kind {
+            Kind::Small => self.small.grow(),
+            Kind::Medium => self.medium.grow(),
+        }
+    }
+
+    /// Room for so many quanta in a kind's subzones. NoMemory leaves all blocks as they were.
+    fn cover(&mut self, kind: Kind, quanta: usize) -> Result<(), NoMemory>
+        requires { quanta < 2 ^ 32 }
+        ensures same { IsRoomierSpace self.old self.new }
+        ensures spare { self.new.spare ≡ self.old.spare }
+        ensures room { OnOk result (IsCovered quanta (region self.new kind)) }
+    {
+        if quanta == 0 {
+            return Ok(());
+        }
+        let wanted = quanta + 31;
+        for grown in 0..wanted {
+            let _ = grown;
+            if self.room(kind) >= wanted {
+                return Ok(());
+            }
+            self.grow(kind)?;
+        }
+        Ok(())
+    }
+
+    /// Whether `reserve` may be asked for these lengths: each is one that a layout may have, and with them the blocks, and
+    /// those that are to come, take fewer than 2^32 small quanta. O(lengths, and those that are to come).
+    pub fn may_reserve(&self, lengths: &[u32]) -> bool
+        ensures lengths { IsTrue result → AreLengths lengths.now }
+        ensures few { IsTrue result → self.now.used + list_quanta self.now.spare + list_quanta lengths.now < 2 ^ 32 }
+    {
+        let Some(spare) = list_quanta(self.spare.as_slice()) else {
+            return false;
+        };
+        let Some(more) = list_quanta(lengths) else {
+            return false;
+        };
+        self.used as u64 + spare as u64 + (more as u64) <= u32::MAX as u64
+    }
+
+    /// Room for blocks of these lengths, which go to the end of those that are to come. NoMemory leaves the blocks and
+    /// the lengths as they were. O(lengths that are to come, and the quanta and words of the subzones that it adds).
+    pub fn reserve(&mut self, lengths: &[u32]) -> Result<(), NoMemory>
+        requires lengths { AreLengths lengths.now }
+        requires few { self.old.used + list_quanta self.old.spare + list_quanta lengths.now < 2 ^ 32 }
+        ensures same { IsRoomierSpace self.old self.new }
+        ensures ok { OnOk result (self.new.spare ≡ self.old.spare ++ lengths.now) }
+        ensures err { OnErr result (self.new.spare ≡ self.old.spare) }
+    {
+        let spare = self.spare.as_slice();
+        let small = kind_quanta(Kind::Small, spare) + kind_quanta(Kind::Small, lengths);
+        let medium = kind_quanta(Kind::Medium, spare) + kind_quanta(Kind::Medium, lengths);
+        self.cover(Kind::Small, small)?;
+        self.cover(Kind::Medium, medium)?;
+        self.extend(lengths)
+    }
+
+    /// These lengths go to the end of those that are to come. NoMemory leaves all as it was.
+    fn extend(&mut self, lengths: &[u32]) -> Result<(), NoMemory>
+        requires lengths { AreLengths lengths.now }
+        requires few { self.old.used + list_quanta self.old.spare + list_quanta lengths.now < 2 ^ 32 }
+        requires covered { (k : AKind) → IsCovered (kind_quanta k self.old.spare + kind_quanta k lengths.now) (region self.old k) }
+        ensures ok { OnOk result (self.new ≡ with_spare self.old (self.old.spare ++ lengths.now)) }
+        ensures err { OnErr result (self.new ≡ self.old) }
+    {
+        match self.spare.extend(lengths) {
+            Ok(()) => Ok(()),
+            Err(refused) => Err(refused),
+        }
+    }
+
+    /// The first of the lengths that are to come. O(1).
+    pub fn next_length(&self) -> Option<u32>
+        ensures { result ≡ slice_get self.now.spare 0 }
+    {
+        self.spare.as_slice().get(0).copied()
+    }
+
+    /// No block is to come any more. O(1).
+    pub fn unreserve(&mut self)
+        ensures { self.new ≡ with_spare self.old [] }
+    {
+        self.spare.clear();
+    }
+
+    /// What holds of each space, for callers that argue from it.
+    fn is_sound(&self)
+        ensures { IsSound self.now }
+    {
+        let _ = self.small.unopened();
+        let _ = self.medium.unopened();
+        let _ = self.table.len();
+    }
+
+    /// Puts a block into the first hole of its kind's subzones that is long enough, or at the beginning of a new subzone
+    /// where there is none, and takes its length off those that are to come. Its words are null or 0; it is white, of age
+    /// 0, not remembered and not finalised. It takes no memory. O(quanta and words, and what no search for that length has
+    /// passed over since the last free before it: at most the quanta of a subzone, and the subzones of the kind).
+    pub fn place(&mut self, layout: Layout) -> Place
+        requires { slice_get self.old.spare 0 ≡ Some (len_of layout) }
+        ensures placed { IsPlacedAt self.old self.new layout result }
+        ensures more { HasBlockMore self.old self.new layout result }
+    {
+        self.is_sound();
+        self.place_first(layout)
+    }
+
+    fn place_first(&mut self, layout: Layout) -> Place
+        requires { slice_get self.old.spare 0 ≡ Some (len_of layout) }
+        ensures { IsPlacedAt self.old self.new layout result }
+    {
+        let kind = kind_of(layout.len());
+        self.used += layout.quanta();
+        self.spare.take_first();
+        match kind {
+            Kind::Small => place_in(&mut self.small, &mut self.table, Kind::Small, layout),
+            Kind::Medium => place_in(&mut self.medium, &mut self.table, Kind::Medium, layout),
+        }
+    }
+}
+
+/// The small quanta of the block that begins at a quantum.
+fn quanta_at(region: &Region, at: usize) -> u32
+    ensures { IfSome (get_or region.now.layouts at None) (λ l. result ≡ quanta (len_of l)) }
+{
+    match region.layout(at) {
+        Some(layout) => layout.quanta(),
+        None => 0,
+    }
+}
+
+impl Space {
+    /// Where a place is among those of its kind.
+    fn spot(&self, p: Place) -> Option<Spot>
+        ensures { result ≡ spot_of self.now p }
+    {
+        match self.table.subzone(p.subzone) {
+            Some(subzone) => spot_in(subzone, p.quantum),
+            None => None,
+        }
+    }
+
+    /// The layout of the block at a place; None exactly where no block begins there. O(1).
+    pub fn layout(&self, p: Place) -> Option<&Layout>
+        ensures { MatchOption result (layout_at self.now p ≡ None) (λ l. layout_at self.now p ≡ Some l.now) }
+    {
+        match self.spot(p) {
+            Some(spot) => match spot.kind {
+                Kind::Small => self.small.layout(spot.at),
+                Kind::Medium => self.medium.layout(spot.at),
+            },
+            None => None,
+        }
+    }
+
+    /// Whether a block begins at a place. O(1).
+    pub fn has_block(&self, p: Place) -> bool
+        ensures value { result ≡ is_some (layout_at self.now p) }
+        ensures block { IsTrue result → HasBlockAt self.now p }
+    {
+        match self.spot(p) {
+            Some(spot) => match spot.kind {
+                Kind::Small => self.small.begins_at(spot.at),
+                Kind::Medium => self.medium.begins_at(spot.at),
+            },
+            None => false,
+        }
+    }
+
+    /// Whether a block with such a word begins at a place. O(1).
+    pub fn has_word(&self, p: Place, i: u32) -> bool
+        ensures { IsTrue result → HasWordAt self.now p i }
+    {
+        match self.spot(p) {
+            Some(spot) => match spot.kind {
+                Kind::Small => self.small.has_word(spot.at, i as usize),
+                Kind::Medium => self.medium.has_word(spot.at, i as usize),
+            },
+            None => false,
+        }
+    }
+
+    /// A word of the block at a place. O(1).
+    pub fn get(&self, p: Place, i: u32) -> Word
+        requires { HasWordAt self.now p i }
+        ensures { result ≡ word_at self.now p i }
+    {
+        let Some(spot) = self.spot(p) else {
+            unreachable!()
+        };
+        match spot.kind {
+            Kind::Small => self.small.word(spot.at, i as usize),
+            Kind::Medium => self.medium.word(spot.at, i as usize),
+        }
+    }
+
+    /// Changes a word of the block at a place, and nothing else. O(1).
+    pub fn set(&mut self, p: Place, i: u32, word: Word)
+        requires { HasWordAt self.old p i }
+        ensures { self.new ≡ with_word_at self.old p i word }
+    {
+        let Some(spot) = self.spot(p) else {
+            unreachable!()
+        };
+        match spot.kind {
+            Kind::Small => self.small.set_word(spot.at, i as usize, word),
+            Kind::Medium => self.medium.set_word(spot.at, i as usize, word),
+        }
+    }
+
+    /// What is noted of the block at a place. O(1).
+    pub fn admin(&self, p: Place) -> Admin
+        requires { HasBlockAt self.now p }
+        ensures value { result ≡ admin_at self.now p }
+        ensures age { result.age ≤ 3 }
+    {
+        let Some(spot) = self.spot(p) else {
+            unreachable!()
+        };
+        let byte = match spot.kind {
+            Kind::Small => self.small.byte(spot.at),
+            Kind::Medium => self.medium.byte(spot.at),
+        };
+        Admin::from_byte(byte)
+    }
+
+    /// Notes this of the block at a place, and changes nothing else. O(1).
+    fn set_admin(&mut self, p: Place, admin: Admin)
+        requires block { HasBlockAt self.old p }
+        requires age { admin.age ≤ 3 }
+        ensures { self.new ≡ with_admin self.old p admin }
+    {
+        let Some(spot) = self.spot(p) else {
+            unreachable!()
+        };
+        let byte = admin.to_byte();
+        match spot.kind {
+            Kind::Small => self.small.set_byte(spot.at, byte),
+            Kind::Medium => self.medium.set_byte(spot.at, byte),
+        }
+    }
+
+    /// Changes the shade of the block at a place, and nothing else. O(1).
+    pub fn set_mark(&mut self, p: Place, shade: Shade)
+        requires { HasBlockAt self.old p }
+        ensures { self.new ≡ with_admin self.old p (with_shade (admin_at self.old p) shade) }
+    {
+        let admin = self.admin(p);
+        self.set_admin(p, Admin { shade, ..admin });
+    }
+
+    /// Changes the age of the block at a place, and nothing else. O(1).
+    pub fn set_age(&mut self, p: Place, age: u8)
+        requires block { HasBlockAt self.old p }
+        requires range { age ≤ 3 }
+        ensures { self.new ≡ with_admin self.old p (with_age (admin_at self.old p) age) }
+    {
+        let admin = self.admin(p);
+        self.set_admin(p, Admin { age, ..admin });
+    }
+
+    /// Changes whether the block at a place is remembered, and nothing else. O(1).
+    pub fn set_card(&mut self, p: Place, on: bool)
+        requires { HasBlockAt self.old p }
+        ensures { self.new ≡ with_admin self.old p (with_card (admin_at self.old p) on) }
+    {
+        let admin = self.admin(p);
+        self.set_admin(p, Admin { card: on, ..admin });
+    }
+
+    /// Notes that the finaliser of the block at a place has run, and changes nothing else. O(1).
+    pub fn set_finalised(&mut self, p: Place)
+        requires { HasBlockAt self.old p }
+        ensures { self.new ≡ with_admin self.old p (with_finalised (admin_at self.old p)) }
+    {
+        let admin = self.admin(p);
+        self.set_admin(
+            p,
+            Admin {
+                finalised: true,
+                ..admin
+            },
+        );
+    }
+
+    fn free_small(&mut self, at: usize)
+        requires { HasBlock self.old.small at }
+        ensures { IfSome (get_or self.old.small.layouts at None) (λ l. IsFreedAt self.old self.new l (spot_at Kind.Small at)) }
+    {
+        self.used -= quanta_at(&self.small, at);
+        self.small.free(at);
+    }
+
+    fn free_medium(&mut self, at: usize)
+        requires { HasBlock self.old.medium at }
+        ensures { IfSome (get_or self.old.medium.layouts at None) (λ l. IsFreedAt self.old self.new l (spot_at Kind.Medium at)) }
+    {
+        self.used -= quanta_at(&self.medium, at);
+        self.medium.free(at);
+    }
+
+    /// Frees the block at a place. The place may be given to another block. O(quanta).
+    pub fn free(&mut self, p: Place)
+        requires { HasBlockAt self.old p }
+        ensures freed { IsTakenOff self.old self.new p }
+        ensures less { HasBlockLess self.old self.new p }
+    {
+        self.is_sound();
+        self.free_at(p);
+    }
+
+    fn free_at(&mut self, p: Place)
+        requires { HasBlockAt self.old p }
+        ensures { IsTakenOff self.old self.new p }
+    {
+        let Some(spot) = self.spot(p) else {
+            unreachable!()
+        };
+        match spot.kind {
+            Kind::Small => self.free_small(spot.at),
+            Kind::Medium => self.free_medium(spot.at),
+        }
+    }
+
+    /// The small quanta of all blocks: one of 128 words takes 64. O(1).
+    pub fn used(&self) -> u32
+        ensures value { result ≡ self.now.used }
+        ensures sum { self.now.used ≡ block_quanta self.now.small.layouts + block_quanta self.now.medium.layouts }
+    {
+        self.used
+    }
+
+    /// The admin bytes of a subzone; None exactly where there is none of this number. O(1).
+    pub fn subzone_map(&self, number: u32) -> Option<&[u8]>
+        ensures { MatchOption result (slice_get self.now.table.subzones number ≡ None) (λ bytes. IsSubzoneMap self.now number bytes.now) }
+    {
+        match self.table.subzone(number) {
+            Some(subzone) => match subzone.kind {
+                Kind::Small => self.small.subzone_bytes(subzone.index as usize),
+                Kind::Medium => self.medium.subzone_bytes(subzone.index as usize),
+            },
+            None => None,
+        }
+    }
+}
