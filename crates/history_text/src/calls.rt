@@ -1,0 +1,218 @@
+//! Calls as words.
+ghost use Rattle.std.specs.Prelude.{◌≡◌, All, OnOk, string_bytes};
+ghost use Rattle.std.specs.List.{flat_map};
+ghost use Rattle.az_base.specs.Texts.{mode_text};
+ghost use Rattle.history_text.specs.Spacing.{Adds, spread};
+ghost use Rattle.history_text.specs.Words.{letter_text, layout_words, action_words, actions_words, loc_words, call_words};
+ghost use Rattle.history_text.specs.Ranges.{IsLayout, IsAction, IsLoc, IsCall};
+
+use crate::pieces::{
+    push_id, push_key, push_number, push_place, push_register, push_root, push_weak_root, push_word,
+};
+use az_base::{Action, Class, Mode};
+use block_layouts::{Layout, Shape};
+use std::alloc::AllocError;
+use zone_model::{Call, Loc};
+
+fn letter(class: Class) -> &'static str
+    ensures { result.now ≡ letter_text class }
+{
+    match class {
+        Class::Strong => "S",
+        Class::Weak => "W",
+        Class::Plain => "P",
+    }
+}
+
+fn push_letters(out: &mut String, classes: &[Class]) -> Result<(), AllocError>
+    ensures { Adds (string_bytes out.old) (string_bytes out.new) result (flat_map letter_text classes.now) }
+{
+    for class in classes {
+        out.push_str(letter(*class))?;
+    }
+    Ok(())
+}
+
+#[tactic(auto, unfolding(crate::specs::Words::layout_words))]
+fn push_layout(out: &mut String, layout: &Layout) -> Result<(), AllocError>
+    ensures adds { Adds (string_bytes out.old) (string_bytes out.new) result (spread (layout_words layout.now)) }
+    ensures range { OnOk result (IsLayout layout.now) }
+{
+    match layout.shape() {
+        Shape::Scanned(words) => {
+            push_word(out, "scanned")?;
+            push_place(out, *words)
+        }
+        Shape::Unscanned(words) => {
+            push_word(out, "unscanned")?;
+            push_place(out, *words)
+        }
+        Shape::Object(classes) => {
+            out.push_str(" object ")?;
+            push_letters(out, classes.as_slice())
+        }
+    }
+}
+
+#[tactic(auto, unfolding(crate::specs::Words::action_words))]
+fn push_action(out: &mut String, action: &Action) -> Result<(), AllocError>
+    ensures adds { Adds (string_bytes out.old) (string_bytes out.new) result (spread (action_words action.now)) }
+    ensures range { OnOk result (IsAction action.now) }
+{
+    match action {
+        Action::Keep(root) => {
+            push_word(out, "keep")?;
+            push_root(out, *root)
+        }
+        Action::Pass(root, at) => {
+            push_word(out, "pass")?;
+            push_root(out, *root)?;
+            push_place(out, *at)
+        }
+    }
+}
+
+fn push_actions(out: &mut String, actions: &[Action]) -> Result<(), AllocError>
+    ensures adds { Adds (string_bytes out.old) (string_bytes out.new) result (spread (actions_words actions.now)) }
+    ensures range { OnOk result (All IsAction actions.now) }
+{
+    for action in actions {
+        push_action(out, action)?;
+    }
+    Ok(())
+}
+
+#[tactic(auto, unfolding(crate::specs::Words::loc_words))]
+fn push_loc(out: &mut String, loc: Loc) -> Result<(), AllocError>
+    ensures adds { Adds (string_bytes out.old) (string_bytes out.new) result (spread (loc_words loc)) }
+    ensures range { OnOk result (IsLoc loc) }
+{
+    match loc {
+        Loc::Root(root) => push_weak_root(out, root),
+        Loc::Word(reg, at) => {
+            push_register(out, reg)?;
+            push_place(out, at)
+        }
+    }
+}
+
+#[tactic(auto, unfolding(az_base::specs::Texts::mode_text))]
+fn mode_word(mode: Mode) -> &'static str
+    ensures { result.now ≡ mode_text mode }
+{
+    match mode {
+        Mode::Young => "young",
+        Mode::Full => "full",
+    }
+}
+
+/// Adds a call with its arguments, each word behind a space.
+#[tactic(auto, unfolding(crate::specs::Words::call_words))]
+pub fn push_call(out: &mut String, call: &Call) -> Result<(), AllocError>
+    ensures adds { Adds (string_bytes out.old) (string_bytes out.new) result (spread (call_words call.now)) }
+    ensures range { OnOk result (IsCall call.now) }
+{
+    match call {
+        Call::New {
+            to,
+            layout,
+            actions,
+        } => {
+            push_word(out, "new")?;
+            push_register(out, *to)?;
+            push_layout(out, layout)?;
+            push_actions(out, actions.as_slice())
+        }
+        Call::Load { to, from, at } => {
+            push_word(out, "load")?;
+            push_register(out, *to)?;
+            push_register(out, *from)?;
+            push_place(out, *at)
+        }
+        Call::Store { into, at, from } => {
+            push_word(out, "store")?;
+            push_register(out, *into)?;
+            push_place(out, *at)?;
+            push_register(out, *from)
+        }
+        Call::Put { into, at, number } => {
+            push_word(out, "put")?;
+            push_register(out, *into)?;
+            push_place(out, *at)?;
+            push_number(out, *number)
+        }
+        Call::Get { from, at } => {
+            push_word(out, "get")?;
+            push_register(out, *from)?;
+            push_place(out, *at)
+        }
+        Call::Copy { to, from } => {
+            push_word(out, "copy")?;
+            push_register(out, *to)?;
+            push_register(out, *from)
+        }
+        Call::DropReg { reg } => {
+            push_word(out, "drop")?;
+            push_register(out, *reg)
+        }
+        Call::CollectLocal => out.push_str(" collect local"),
+        Call::SetRoot { root, from } => {
+            push_word(out, "setroot")?;
+            push_root(out, *root)?;
+            push_register(out, *from)
+        }
+        Call::GetRoot { to, root } => {
+            push_word(out, "getroot")?;
+            push_register(out, *to)?;
+            push_root(out, *root)
+        }
+        Call::Retain { reg } => {
+            push_word(out, "retain")?;
+            push_register(out, *reg)
+        }
+        Call::Release { reg } => {
+            push_word(out, "release")?;
+            push_register(out, *reg)
+        }
+        Call::Count { reg } => {
+            push_word(out, "count")?;
+            push_register(out, *reg)
+        }
+        Call::Take { to, id } => {
+            push_word(out, "take")?;
+            push_register(out, *to)?;
+            push_id(out, *id)
+        }
+        Call::SetAssoc { object, key, value } => {
+            push_word(out, "setassoc")?;
+            push_register(out, *object)?;
+            push_key(out, *key)?;
+            push_register(out, *value)
+        }
+        Call::GetAssoc { to, object, key } => {
+            push_word(out, "getassoc")?;
+            push_register(out, *to)?;
+            push_register(out, *object)?;
+            push_key(out, *key)
+        }
+        Call::SetWeak { loc, from } => {
+            push_word(out, "setweak")?;
+            push_loc(out, *loc)?;
+            push_register(out, *from)
+        }
+        Call::ReadWeak { to, loc } => {
+            push_word(out, "readweak")?;
+            push_register(out, *to)?;
+            push_loc(out, *loc)
+        }
+        Call::Stats => push_word(out, "stats"),
+        Call::Begin { mode } => {
+            push_word(out, "begin")?;
+            push_word(out, mode_word(*mode))
+        }
+        Call::Condemn => push_word(out, "condemn"),
+        Call::Finalise => push_word(out, "finalise"),
+        Call::Reclaim => push_word(out, "reclaim"),
+        Call::Leave => push_word(out, "leave"),
+    }
+}

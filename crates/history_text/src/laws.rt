@@ -1,0 +1,13 @@
+//! What the text of a line says.
+ghost use Rattle.history_text.specs.Laws.{LinesHaveOneReading};
+
+use az_words::numbers_are_read;
+use call_words::arguments_are_read;
+
+/// Bytes are one line at most, but for the room that lists of ids have.
+pub fn lines_have_one_reading()
+    ensures { LinesHaveOneReading }
+{
+    numbers_are_read();
+    arguments_are_read();
+}

@@ -1,0 +1,107 @@
+//! Single words, each behind a space.
+ghost use Rattle.std.specs.Prelude.{◌≡◌, [], ◌∷◌, string_bytes};
+ghost use Rattle.std.specs.Fmt.{decimal};
+ghost use Rattle.az_base.specs.Texts.{reg_text, root_text, weak_text, key_text, id_text};
+ghost use Rattle.history_text.specs.Spacing.{Adds, spread};
+ghost use Rattle.history_text.specs.Ranges.{IsReg, IsSmall, IsPlace, IsNumber, IsThread, IsId};
+
+use az_base::{BlockId, Key, Reg, RootNo, ThreadNo, WeakNo};
+use itoa::Buffer;
+use std::alloc::AllocError;
+
+/// Adds a numeral.
+pub fn push_decimal(out: &mut String, number: u64) -> Result<(), AllocError>
+    ensures adds { Adds (string_bytes out.old) (string_bytes out.new) result (decimal number) }
+    ensures range { IsNumber number }
+{
+    let mut buffer = Buffer::new();
+    out.push_str(buffer.format(number))
+}
+
+/// Adds the number of a thread, with no space before it.
+pub fn push_thread(out: &mut String, thread: ThreadNo) -> Result<(), AllocError>
+    ensures adds { Adds (string_bytes out.old) (string_bytes out.new) result (decimal thread) }
+    ensures range { IsThread thread }
+{
+    push_decimal(out, u64::from(thread.get()))
+}
+
+/// Adds a fixed word.
+pub fn push_word(out: &mut String, word: &str) -> Result<(), AllocError>
+    ensures { Adds (string_bytes out.old) (string_bytes out.new) result (32 ∷ word.now) }
+{
+    out.push_str(" ")?;
+    out.push_str(word)
+}
+
+pub fn push_number(out: &mut String, number: u64) -> Result<(), AllocError>
+    ensures adds { Adds (string_bytes out.old) (string_bytes out.new) result (32 ∷ decimal number) }
+    ensures range { IsNumber number }
+{
+    out.push_str(" ")?;
+    push_decimal(out, number)
+}
+
+/// Adds a number behind its name.
+pub fn push_named(out: &mut String, name: &str, number: u64) -> Result<(), AllocError>
+    ensures adds { Adds (string_bytes out.old) (string_bytes out.new) result (spread (name.now ∷ decimal number ∷ [])) }
+    ensures range { IsNumber number }
+{
+    push_word(out, name)?;
+    push_number(out, number)
+}
+
+pub fn push_place(out: &mut String, at: u32) -> Result<(), AllocError>
+    ensures adds { Adds (string_bytes out.old) (string_bytes out.new) result (32 ∷ decimal at) }
+    ensures range { IsPlace at }
+{
+    push_number(out, u64::from(at))
+}
+
+#[tactic(auto, unfolding(az_base::specs::Texts::reg_text))]
+pub fn push_register(out: &mut String, reg: Reg) -> Result<(), AllocError>
+    ensures adds { Adds (string_bytes out.old) (string_bytes out.new) result (32 ∷ reg_text reg) }
+    ensures range { IsReg reg }
+{
+    let number = reg.get();
+    out.push_str(" r")?;
+    push_decimal(out, u64::from(number))
+}
+
+#[tactic(auto, unfolding(az_base::specs::Texts::root_text))]
+pub fn push_root(out: &mut String, root: RootNo) -> Result<(), AllocError>
+    ensures adds { Adds (string_bytes out.old) (string_bytes out.new) result (32 ∷ root_text root.0) }
+    ensures range { IsSmall root.0 }
+{
+    out.push_str(" g")?;
+    push_decimal(out, u64::from(root.0))
+}
+
+#[tactic(auto, unfolding(az_base::specs::Texts::weak_text))]
+pub fn push_weak_root(out: &mut String, root: WeakNo) -> Result<(), AllocError>
+    ensures adds { Adds (string_bytes out.old) (string_bytes out.new) result (32 ∷ weak_text root.0) }
+    ensures range { IsSmall root.0 }
+{
+    out.push_str(" w")?;
+    push_decimal(out, u64::from(root.0))
+}
+
+#[tactic(auto, unfolding(az_base::specs::Texts::key_text))]
+pub fn push_key(out: &mut String, key: Key) -> Result<(), AllocError>
+    ensures adds { Adds (string_bytes out.old) (string_bytes out.new) result (32 ∷ key_text key.0) }
+    ensures range { IsSmall key.0 }
+{
+    out.push_str(" k")?;
+    push_decimal(out, u64::from(key.0))
+}
+
+#[tactic(auto, unfolding(az_base::specs::Texts::id_text))]
+pub fn push_id(out: &mut String, id: BlockId) -> Result<(), AllocError>
+    ensures adds { Adds (string_bytes out.old) (string_bytes out.new) result (32 ∷ id_text id) }
+    ensures range { IsId id }
+{
+    out.push_str(" ")?;
+    push_thread(out, id.thread)?;
+    out.push_str(".")?;
+    push_decimal(out, u64::from(id.serial))
+}

@@ -1,0 +1,101 @@
+//! Replies as words.
+ghost use Rattle.std.specs.Prelude.{◌≡◌, All, OnOk, map, string_bytes};
+ghost use Rattle.az_base.specs.Texts.{id_text, misuse_name};
+ghost use Rattle.history_text.specs.Spacing.{Adds, spread};
+ghost use Rattle.history_text.specs.Words.{ids_words, stats_words, reply_words};
+ghost use Rattle.history_text.specs.Ranges.{IsId, AreIds, AreStats, IsReply};
+
+use crate::pieces::{push_id, push_named, push_number, push_word};
+use az_base::{BlockId, Misuse};
+use std::alloc::AllocError;
+use zone_model::{Reply, Stats};
+
+fn push_more_ids(out: &mut String, ids: &[BlockId]) -> Result<(), AllocError>
+    ensures adds { Adds (string_bytes out.old) (string_bytes out.new) result (spread (map id_text ids.now)) }
+    ensures range { OnOk result (AreIds ids.now) }
+{
+    for id in ids {
+        push_id(out, *id)?;
+    }
+    Ok(())
+}
+
+#[tactic(auto, unfolding(crate::specs::Words::ids_words))]
+fn push_ids(out: &mut String, ids: &[BlockId]) -> Result<(), AllocError>
+    ensures adds { Adds (string_bytes out.old) (string_bytes out.new) result (spread (ids_words ids.now)) }
+    ensures range { OnOk result (AreIds ids.now) }
+{
+    if ids.is_empty() {
+        return push_word(out, "none");
+    }
+    push_more_ids(out, ids)
+}
+
+/// Adds the five numbers, each behind its name.
+#[tactic(auto, unfolding(crate::specs::Words::stats_words))]
+pub fn push_stats(out: &mut String, stats: &Stats) -> Result<(), AllocError>
+    ensures adds { Adds (string_bytes out.old) (string_bytes out.new) result (spread (stats_words stats.now)) }
+    ensures range { OnOk result (AreStats stats.now) }
+{
+    push_named(out, "blocks", stats.blocks)?;
+    push_named(out, "quanta", stats.quanta)?;
+    push_named(out, "retained", stats.retained)?;
+    push_named(out, "weak", stats.weak)?;
+    push_named(out, "assocs", stats.assocs)
+}
+
+#[tactic(auto, unfolding(az_base::specs::Texts::misuse_name))]
+fn misuse_word(misuse: Misuse) -> &'static str
+    ensures { result.now ≡ misuse_name misuse }
+{
+    match misuse {
+        Misuse::NullBlock => "NullBlock",
+        Misuse::NoWord => "NoWord",
+        Misuse::WrongClass => "WrongClass",
+        Misuse::OverRelease => "OverRelease",
+        Misuse::CountFull => "CountFull",
+        Misuse::SerialsUsed => "SerialsUsed",
+        Misuse::ZoneFull => "ZoneFull",
+        Misuse::NotHeld => "NotHeld",
+    }
+}
+
+/// Adds a reply, each word behind a space.
+#[tactic(auto, unfolding(crate::specs::Words::reply_words))]
+pub fn push_reply(out: &mut String, reply: &Reply) -> Result<(), AllocError>
+    ensures adds { Adds (string_bytes out.old) (string_bytes out.new) result (spread (reply_words reply.now)) }
+    ensures range { OnOk result (IsReply reply.now) }
+{
+    match reply {
+        Reply::Done => push_word(out, "ok"),
+        Reply::Block(None) => push_word(out, "null"),
+        Reply::Block(Some(id)) => push_id(out, *id),
+        Reply::Number(number) => push_number(out, *number),
+        Reply::Busy => push_word(out, "busy"),
+        Reply::Begun => push_word(out, "begun"),
+        Reply::Condemned(ids) => {
+            push_word(out, "condemned")?;
+            push_ids(out, ids.as_slice())
+        }
+        Reply::Finalised(id) => {
+            push_word(out, "finalised")?;
+            push_id(out, *id)
+        }
+        Reply::Reclaimed(ids) => {
+            push_word(out, "reclaimed")?;
+            push_ids(out, ids.as_slice())
+        }
+        Reply::Settled { reclaimed, kept } => {
+            push_word(out, "reclaimed")?;
+            push_ids(out, reclaimed.as_slice())?;
+            push_word(out, "kept")?;
+            push_ids(out, kept.as_slice())
+        }
+        Reply::Stats(stats) => push_stats(out, stats),
+        Reply::Misuse(misuse) => {
+            push_word(out, "misuse")?;
+            push_number(out, u64::from(misuse.number()))?;
+            push_word(out, misuse_word(*misuse))
+        }
+    }
+}
