@@ -1,5 +1,5 @@
 //! What a publication and a shared call change.
-ghost use Rattle.std.specs.Prelude.{◌≡◌, [], None, Some, true, slice_get};
+ghost use Rattle.std.specs.Prelude.{◌≡◌, [], None, Some, true, length, slice_get};
 ghost use Rattle.std.specs.FinMap.{get, empty};
 ghost use Rattle.az_base.specs.Ids.{same_id};
 ghost use Rattle.zone_model.specs.Part.{is_in, put_register, leave_part, own_block};
@@ -13,7 +13,8 @@ use block_layouts::Layout;
 impl Local {
     /// What a register held when the thread's holds were last published. O(1).
     pub fn published(&self, reg: Reg) -> Option<BlockId>
-        ensures { result ≡ held_in self.now.published reg }
+        ensures value { result ≡ held_in self.now.published reg }
+        ensures sixteen { length self.now.published ≡ 16 }
     {
         self.published[reg.get() as usize]
     }
