@@ -1,6 +1,7 @@
 -- What holds of a space after a change
-use Rattle.std.proofs.Common.{MatchOption, ◌≡◌, ◌≢◌, ◌⊎◌, inl, inr, ℕ, zero, suc, ◌+◌, ◌-◌, ◌*◌, ◌<◌, ◌≤◌, ◌^◌, ◌++◌, ◌∷◌, List, [], Option, Some, None, refl, sym, ap, ◌∙◌, subst, arith, length, get_or, set, slice_get, drop}
+use Rattle.std.proofs.Common.{MatchOption, ◌≡◌, ◌⊎◌, inl, inr, ℕ, zero, suc, ◌+◌, ◌-◌, ◌*◌, ◌<◌, ◌≤◌, ◌^◌, ◌++◌, ◌∷◌, List, [], Option, Some, None, refl, sym, ap, ◌∙◌, subst, arith, length, get_or, set, slice_get, drop}
 use Rattle.std.specs.Bool.{⊤}
+use Rattle.az_base.specs.declared.block_id.BlockId.{BlockId}
 use Rattle.block_layouts.specs.declared.layout.Layout.{Layout}
 use Rattle.block_layouts.specs.Layouts.{len_of, quanta}
 use Rattle.quantum_space.specs.declared.place.Place.{Place}
@@ -119,10 +120,10 @@ unopened_both s kind.Small inv = inv.unopened
 unopened_both s kind.Medium inv = omega (arith, inv.unopened)
 
 -- a block more, for the first of the lengths
-module _ (s : Space') (inv : IsSpace s) (k : Kind) (l : Layout) (new : Region') (t : Table') (index quantum : ℕ)
+module _ (s : Space') (inv : IsSpace s) (k : Kind) (id : BlockId) (l : Layout) (new : Region') (t : Table') (index quantum : ℕ)
     (own : k ≡ kind_of (len_of l))
     (first : slice_get s.spare 0 ≡ Some (len_of l))
-    (placed : IsPlaced (region s k) new l (index, quantum) (index * (region s k).map.size + quantum))
+    (placed : IsPlaced (region s k) new id l (index, quantum) (index * (region s k).map.size + quantum))
     (table : ((index < (region s k).opened) × (t ≡ s.table)) ⊎ ((index ≡ (region s k).opened) × (t ≡ opened_with s.table k)))
     (room : room_of (region s k) ≤ room_of new + quanta_in (region s k).width (len_of l)) where
   wide : kind_length k (len_of l) ≡ quanta_in (region s k).width (len_of l)
@@ -284,12 +285,19 @@ roomier_space_more a b c f g = record {
   used = g.used ∙ f.used;
 }
 
-pub placed_kept : (s : Space') (k : Kind) (l : Layout) (new : Region') (t : Table') (p : Place) (ns : List ℕ) (q : ℕ) → IsSpace s → k ≡ kind_of (len_of l) → slice_get s.spare 0 ≡ Some (len_of l)
-    → IsPlacedIn (region s k) new s.table t k l p → room_of (region s k) ≤ room_of new + quanta_in (region s k).width (len_of l) → ns ≡ drop 1 s.spare → q ≡ quanta (len_of l) → IsSpace (altered s k new t ns (s.used + q))
-placed_kept s k l new t p ns q inv own first placed room en eq =
+pub roomier_spare : (s : Space') (ns : List ℕ) → IsRoomierSpace s (record { small = s.small; medium = s.medium; table = s.table; spare = ns; used = s.used })
+roomier_spare s ns = record { each = each; subzones = refl; numbers = λ k. refl; used = refl }
+  where
+    each : (k : Kind) → IsRoomier (region s k) (region (record { small = s.small; medium = s.medium; table = s.table; spare = ns; used = s.used }) k)
+    each kind.Small = roomier_itself s.small
+    each kind.Medium = roomier_itself s.medium
+
+pub placed_kept : (s : Space') (k : Kind) (id : BlockId) (l : Layout) (new : Region') (t : Table') (p : Place) (ns : List ℕ) (q : ℕ) → IsSpace s → k ≡ kind_of (len_of l) → slice_get s.spare 0 ≡ Some (len_of l)
+    → IsPlacedIn (region s k) new s.table t k id l p → room_of (region s k) ≤ room_of new + quanta_in (region s k).width (len_of l) → ns ≡ drop 1 s.spare → q ≡ quanta (len_of l) → IsSpace (altered s k new t ns (s.used + q))
+placed_kept s k id l new t p ns q inv own first placed room en eq =
     subst (λ (x : List ℕ). IsSpace (altered s k new t x (s.used + q))) (sym en)
     (subst (λ (x : ℕ). IsSpace (altered s k new t (drop 1 s.spare) (s.used + x))) (sym eq)
-    (kept s k new t (drop 1 s.spare) (s.used + quanta (len_of l)) inv (kind_placed s inv k l new t placed.index p.quantum own first placed.placed placed.table room)))
+    (kept s k new t (drop 1 s.spare) (s.used + quanta (len_of l)) inv (kind_placed s inv k id l new t placed.index p.quantum own first placed.placed placed.table room)))
 
 -- with more lengths of blocks to come
 pub more_come : (s : Space') (ns ms : List ℕ) → IsSpace s → AreLengths ns → s.used + list_quanta s.spare + list_quanta ns < 2 ^ 32 → ms ≡ s.spare ++ ns

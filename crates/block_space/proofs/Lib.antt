@@ -3,3 +3,4 @@ pub mod Mapping
 pub mod Opening
 pub mod Still
 pub mod Sums
+pub mod Noting

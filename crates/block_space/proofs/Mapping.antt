@@ -1,20 +1,21 @@
 -- Blocks at their places
-use Rattle.std.proofs.Common.{IfSome, MatchOption, ◌≡◌, ◌≢◌, ◌⊎◌, inl, inr, ℕ, ◌+◌, ◌*◌, ◌<◌, ◌≤◌, ◌++◌, ◌∷◌, [], List, Option, Some, None, Bool, true, false, nat_lt, if◌then◌else◌, refl, sym, ap, ◌∙◌, subst, arith, length, get_or, get_or-set_same, slice_get}
+use Rattle.std.proofs.Common.{IfSome, MatchOption, ◌≡◌, ◌≢◌, ◌⊎◌, inl, inr, ℕ, ◌+◌, ◌*◌, ◌<◌, ◌++◌, ◌∷◌, [], List, Option, Some, None, Bool, true, false, nat_lt, if◌then◌else◌, refl, sym, ap, ◌∙◌, subst, arith, length, get_or, get_or-set_same, slice_get}
 use Rattle.std.proofs.lemmas.Bool.{ltb-true, lt-ltb}
 use Rattle.std.specs.Option.{option_and_then, option_map_or}
+use Rattle.az_base.specs.declared.block_id.BlockId.{BlockId}
 use Rattle.az_base.specs.declared.word.Word.TheVariants as word
 use Rattle.block_layouts.specs.declared.layout.Layout.{Layout}
-use Rattle.block_layouts.specs.Layouts.{class_at, len_of}
+use Rattle.block_layouts.specs.Layouts.{len_of}
 use Rattle.quantum_space.specs.declared.place.Place.{Place}
-use Rattle.quantum_space.specs.Regions.{Region', HasBlock, IsPlaced, IsRegion, new_byte, new_word, quanta_in}
-use Rattle.quantum_space.proofs.Cursors.{one_row, row_after}
-use Rattle.quantum_space.proofs.Placing.{row_le, some_quanta}
+use Rattle.quantum_space.specs.Regions.{Region', HasBlock, IsRegion, no_id}
+use Rattle.quantum_space.proofs.Cursors.{one_row}
+use Rattle.quantum_space.proofs.Placing.{some_quanta}
 use Rattle.block_space.specs.declared.space.Spot.{Spot}
 use Rattle.block_space.specs.declared.table.Kind.{Kind}
 use Rattle.block_space.specs.declared.table.Kind.TheVariants as kind
 use Rattle.block_space.specs.declared.table.Subzone.{Subzone}
 use Rattle.block_space.specs.Tables.{Table', IsTable, numbers, opened_with, subzone_of}
-use Rattle.block_space.specs.Spaces.{Space', HasBlockAt, IsFreedAt, IsPlacedAt, IsSpace, IsTakenOff, byte_at, kind_of, layout_at, other, region, size_of, spot_at, spot_in, spot_of, word_at}
+use Rattle.block_space.specs.Spaces.{Space', HasBlockAt, IsFreedAt, IsPlacedAt, IsSpace, IsTakenOff, byte_at, id_at, kind_of, layout_at, other, region, size_of, spot_at, spot_in, spot_of, word_at}
 use Rattle.block_space.specs.Maps.{HasBlockLess, HasBlockMore, IsSameBlock, IsSound}
 use Rattle.block_space.proofs.Keeping.{stored_block, unopened_both}
 use Rattle.block_space.proofs.Opening.{end_cases, get_front, table_opened}
@@ -34,6 +35,9 @@ layout_spot s q x e = ap (λ m. option_and_then (λ y. get_or (region s y.kind).
 
 pub byte_spot : (s : Space') (q : Place) (x : Spot) → spot_of s q ≡ Some x → byte_at s q ≡ get_or (region s x.kind).map.bytes x.at 0
 byte_spot s q x e = ap (λ m. option_map_or (λ y. get_or (region s y.kind).map.bytes y.at 0) m 0) e
+
+pub id_spot : (s : Space') (q : Place) (x : Spot) → spot_of s q ≡ Some x → id_at s q ≡ get_or (region s x.kind).ids x.at no_id
+id_spot s q x e = ap (λ m. option_map_or (λ y. get_or (region s y.kind).ids y.at no_id) m no_id) e
 
 pub word_spot : (s : Space') (q : Place) (x : Spot) (i : ℕ) → spot_of s q ≡ Some x → word_at s q i ≡ get_or (region s x.kind).words (x.at * (region s x.kind).width + i) word.Null
 word_spot s q x i e = ap (λ m. option_map_or (λ y. get_or (region s y.kind).words (y.at * (region s y.kind).width + i) word.Null) m word.Null) e
@@ -103,12 +107,13 @@ opened_subzones t kind.Medium = refl
 pub same_block : (s new : Space') (q : Place) (x : Spot) (o : Layout) → spot_of s q ≡ Some x → spot_of new q ≡ Some x → IsStill (region s x.kind) (region new x.kind) x.at o → IsSameBlock s new q o
 same_block s new q x o e f still = record {
   layout = layout_spot new q x f ∙ still.layout;
+  id = id_spot new q x f ∙ still.id ∙ sym (id_spot s q x e);
   byte = byte_spot new q x f ∙ still.byte ∙ sym (byte_spot s q x e);
   words = λ i l. word_spot new q x i f ∙ still.words i l ∙ sym (word_spot s q x i e);
 }
 
 -- a block more
-module _ (s new : Space') (sound : IsSound s) (l : Layout) (p : Place) (is : IsPlacedAt s new l p) where
+module _ (s new : Space') (sound : IsSound s) (id : BlockId) (l : Layout) (p : Place) (is : IsPlacedAt s new id l p) where
   abbrev k : Kind
   k = kind_of (len_of l)
 
@@ -147,7 +152,7 @@ module _ (s new : Space') (sound : IsSound s) (l : Layout) (p : Place) (is : IsP
   still : (x : Spot) (o : Layout) → get_or (region s x.kind).layouts x.at None ≡ Some o → IsStill (region s x.kind) (region new x.kind) x.at o
   still x o e = elim (kind_cases x.kind k) [
     | inl j ↦ subst (λ (m : Kind). IsStill (region s m) (region new m) x.at o) (sym j)
-        (placed_still (region s k) (region new k) (sound.regions k) l (is.placed.index, p.quantum) at is.placed.placed x.at o (subst (λ (m : Kind). get_or (region s m).layouts x.at None ≡ Some o) j e))
+        (placed_still (region s k) (region new k) (sound.regions k) id l (is.placed.index, p.quantum) at is.placed.placed x.at o (subst (λ (m : Kind). get_or (region s m).layouts x.at None ≡ Some o) j e))
     | inr j ↦ subst (λ (m : Kind). IsStill (region s m) (region new m) x.at o) (sym j)
         (all_still (region s (other k)) (region new (other k)) x.at o is.others (subst (λ (m : Kind). get_or (region s m).layouts x.at None ≡ Some o) j e))
   ]
@@ -158,7 +163,7 @@ module _ (s new : Space') (sound : IsSound s) (l : Layout) (p : Place) (is : IsP
   -- a block of the new space is the new one, or was there
   was : (x : Spot) (o : Layout) → get_or (region new x.kind).layouts x.at None ≡ Some o → (x ≡ spot_at k at) ⊎ (get_or (region s x.kind).layouts x.at None ≡ Some o)
   was x o e = elim (kind_cases x.kind k) [
-    | inl j ↦ elim (placed_only (region s k) (region new k) (sound.regions k) l (is.placed.index, p.quantum) at is.placed.placed x.at o (subst (λ (m : Kind). get_or (region new m).layouts x.at None ≡ Some o) j e)) [
+    | inl j ↦ elim (placed_only (region s k) (region new k) (sound.regions k) id l (is.placed.index, p.quantum) at is.placed.placed x.at o (subst (λ (m : Kind). get_or (region new m).layouts x.at None ≡ Some o) j e)) [
       | inl a ↦ inl (ap (λ (m : Kind). spot_at m x.at) j ∙ ap (λ n. spot_at k n) a)
       | inr a ↦ inr (subst (λ (m : Kind). get_or (region s m).layouts x.at None ≡ Some o) (sym j) a)
     ]
@@ -191,10 +196,11 @@ module _ (s new : Space') (sound : IsSound s) (l : Layout) (p : Place) (is : IsP
       let f : get_or (region s k).layouts at None ≡ Some o = subst (λ (y : Spot). get_or (region s y.kind).layouts y.at None ≡ Some o) (let q : x.0 ≡ spot_at k at = cc in q) x.2 in
       let n = is.placed.placed.fresh in cc)
 
-  pub block_more : HasBlockMore s new l p
+  pub block_more : HasBlockMore s new id l p
   block_more = record {
     fresh = none_or_some (layout_at s p) refl;
     layout = layout_spot new p (spot_at k at) here ∙ ap (λ (xs : List (Option Layout)). get_or xs at None) is.placed.placed.layouts ∙ get_or-set_same (region s k).layouts at (Some l) None is.placed.placed.inside;
+    its_id = id_spot new p (spot_at k at) here ∙ ap (λ (xs : List BlockId). get_or xs at no_id) is.placed.placed.ids ∙ get_or-set_same (region s k).ids at id no_id (let r = sound.regions k in omega (arith, is.placed.placed.inside, r.ids, r.layouts));
     byte = byte_spot new p (spot_at k at) here ∙ is.placed.placed.first;
     words = λ i b. word_spot new p (spot_at k at) i here ∙ ap (λ w. get_or (region new k).words (at * w + i) word.Null) is.placed.placed.width ∙ is.placed.placed.words i b;
     others = others;

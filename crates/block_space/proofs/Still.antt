@@ -1,10 +1,10 @@
 -- Blocks of a region that stay as they were
 use Rattle.std.proofs.Common.{◌≡◌, ◌≢◌, ◌⊎◌, inl, inr, ℕ, ◌+◌, ◌-◌, ◌*◌, ◌<◌, ◌≤◌, List, Option, Some, None, refl, sym, ap, ◌∙◌, subst, arith, length, get_or, set, get_or-set_same, get_or-set_other}
-use Rattle.az_base.specs.declared.word.Word.{Word}
+use Rattle.az_base.specs.declared.block_id.BlockId.{BlockId}
 use Rattle.az_base.specs.declared.word.Word.TheVariants as word
 use Rattle.block_layouts.specs.declared.layout.Layout.{Layout}
 use Rattle.block_layouts.specs.Layouts.{len_of}
-use Rattle.quantum_space.specs.Regions.{Region', IsFreed, IsPlaced, IsRegion, Lies, quanta_in}
+use Rattle.quantum_space.specs.Regions.{Region', IsFreed, IsPlaced, IsRegion, Lies, no_id, quanta_in}
 use Rattle.quantum_space.proofs.Runs.{below_or}
 use Rattle.quantum_space.proofs.Cursors.{three_ways}
 use Rattle.quantum_space.proofs.Placing.{block_used, blocks_apart, row_le, some_quanta, words_fit}
@@ -12,11 +12,12 @@ use Rattle.quantum_space.proofs.Placing.{block_used, blocks_apart, row_le, some_
 -- the block at a quantum is as it was
 pub record IsStill (r new : Region') (k : ℕ) (o : Layout) : Type 0 where
   pub layout : get_or new.layouts k None ≡ Some o
+  pub id : get_or new.ids k no_id ≡ get_or r.ids k no_id
   pub byte : get_or new.map.bytes k 0 ≡ get_or r.map.bytes k 0
   pub words : (i : ℕ) → i < len_of o → get_or new.words (k * new.width + i) word.Null ≡ get_or r.words (k * r.width + i) word.Null
 
 pub all_still : (r new : Region') (k : ℕ) (o : Layout) → new ≡ r → get_or r.layouts k None ≡ Some o → IsStill r new k o
-all_still r new k o e s = subst (λ (x : Region'). IsStill r x k o) (sym e) (record { layout = s; byte = refl; words = λ i l. refl })
+all_still r new k o e s = subst (λ (x : Region'). IsStill r x k o) (sym e) (record { layout = s; id = refl; byte = refl; words = λ i l. refl })
 
 -- words of blocks that lie apart lie apart
 words_apart : (w k at i len other : ℕ) → 0 < w → i < len → (k + quanta_in w len ≤ at) ⊎ (at + quanta_in w other ≤ k) → (k * w + i < at * w) ⊎ (at * w + other ≤ k * w + i)
@@ -26,7 +27,7 @@ words_apart w k at i len other wide l (inr a) = (let d : (at + quanta_in w other
 differ : (xs : List (Option Layout)) (k at : ℕ) (o : Layout) → get_or xs k None ≡ Some o → get_or xs at None ≡ None → k ≢ at
 differ xs k at o e f s = (let g : get_or xs k None ≡ None = ap (λ j. get_or xs j None) s ∙ f in cc)
 
-module _ (r new : Region') (inv : IsRegion r) (l : Layout) (f : ℕ × ℕ) (at : ℕ) (placed : IsPlaced r new l f at) where
+module _ (r new : Region') (inv : IsRegion r) (id : BlockId) (l : Layout) (f : ℕ × ℕ) (at : ℕ) (placed : IsPlaced r new id l f at) where
   free : (j : ℕ) → at ≤ j → j < at + quanta_in r.width (len_of l) → get_or r.map.bytes j 0 ≡ 0
   free j a b = subst (λ x. get_or r.map.bytes x 0 ≡ 0) (let q : f.0 * r.map.size + f.1 + (j - at) ≡ j = omega (arith, placed.place, a) in q) (placed.hole.here.hole.1 (j - at) (omega (arith, a, b)))
 
@@ -52,6 +53,7 @@ module _ (r new : Region') (inv : IsRegion r) (l : Layout) (f : ℕ × ℕ) (at 
       let a = apart k o lies in
       record {
         layout = ap (λ (xs : List (Option Layout)). get_or xs k None) placed.layouts ∙ get_or-set_other r.layouts at k (Some l) None (differ r.layouts k at o e placed.fresh) ∙ e;
+        id = ap (λ (xs : List BlockId). get_or xs k no_id) placed.ids ∙ get_or-set_other r.ids at k id no_id (differ r.layouts k at o e placed.fresh);
         byte = placed.bytes k (outside k o a);
         words = λ i b. ap (λ w. get_or new.words (k * w + i) word.Null) placed.width ∙ placed.others (k * r.width + i) (words_apart r.width k at i (len_of o) (len_of l) inv.wide b a);
       }
@@ -90,6 +92,7 @@ module _ (r new : Region') (inv : IsRegion r) (l : Layout) (at : ℕ) (stored : 
   pub freed_still : (k : ℕ) (o : Layout) → k ≢ at → get_or r.layouts k None ≡ Some o → IsStill r new k o
   freed_still k o d e = record {
     layout = ap (λ (xs : List (Option Layout)). get_or xs k None) left ∙ get_or-set_other r.layouts at k None None d ∙ e;
+    id = ap (λ (x : Region'). get_or x.ids k no_id) freed.rest;
     byte = freed.bytes k (apart_from k o e d);
     words = λ i b. ap (λ (x : Region'). get_or x.words (k * x.width + i) word.Null) freed.rest;
   }

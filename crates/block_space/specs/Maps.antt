@@ -1,12 +1,14 @@
 -- A space as a map from places to blocks
 use Rattle.std.specs.Prelude.{◌≡◌, ◌≢◌, ℕ, ◌<◌, ◌⊎◌, Some, None}
+use Rattle.az_base.specs.declared.block_id.BlockId.{BlockId}
 use Rattle.block_layouts.specs.declared.layout.Layout.{Layout}
 use Rattle.block_layouts.specs.Layouts.{class_at, len_of}
+use Rattle.quantum_space.specs.declared.admin.Admin.{Admin}
 use Rattle.quantum_space.specs.declared.place.Place.{Place}
 use Rattle.quantum_space.specs.Regions.{IsRegion, new_byte, new_word}
 use Rattle.block_space.specs.declared.table.Kind.{Kind}
 use Rattle.block_space.specs.Tables.{IsTable}
-use Rattle.block_space.specs.Spaces.{Space', IsSpace, byte_at, layout_at, region, word_at}
+use Rattle.block_space.specs.Spaces.{Space', IsSpace, admin_at, byte_at, id_at, layout_at, region, word_at}
 
 -- what holds of each space and of its parts
 pub record IsSound (s : Space') : Type 0 where
@@ -17,13 +19,15 @@ pub record IsSound (s : Space') : Type 0 where
 -- a block is at its place as it was
 pub record IsSameBlock (s new : Space') (q : Place) (o : Layout) : Type 0 where
   pub layout : layout_at new q ≡ Some o
+  pub id : id_at new q ≡ id_at s q
   pub byte : byte_at new q ≡ byte_at s q
   pub words : (i : ℕ) → i < len_of o → word_at new q i ≡ word_at s q i
 
--- one block has come, with the words and the byte of a new one, and all others are as they were
-pub record HasBlockMore (s new : Space') (l : Layout) (p : Place) : Type 0 where
+-- one block has come, with its id and the words and the byte of a new one, and all others are as they were
+pub record HasBlockMore (s new : Space') (id : BlockId) (l : Layout) (p : Place) : Type 0 where
   pub fresh : layout_at s p ≡ None
   pub layout : layout_at new p ≡ Some l
+  pub its_id : id_at new p ≡ id
   pub byte : byte_at new p ≡ new_byte
   pub words : (i : ℕ) → i < len_of l → word_at new p i ≡ new_word (class_at l i)
   pub others : (q : Place) (o : Layout) → layout_at s q ≡ Some o → IsSameBlock s new q o
@@ -34,3 +38,10 @@ pub record HasBlockLess (s new : Space') (p : Place) : Type 0 where
   pub gone : layout_at new p ≡ None
   pub others : (q : Place) (o : Layout) → q ≢ p → layout_at s q ≡ Some o → IsSameBlock s new q o
   pub only : (q : Place) (o : Layout) → layout_at new q ≡ Some o → layout_at s q ≡ Some o
+
+-- the same blocks, with their ids and words; what is noted of each is what a rule makes of what was
+pub record AreNoted (f : Admin → Admin) (s new : Space') : Type 0 where
+  pub layouts : (p : Place) → layout_at new p ≡ layout_at s p
+  pub ids : (p : Place) → id_at new p ≡ id_at s p
+  pub words : (p : Place) (i : ℕ) → word_at new p i ≡ word_at s p i
+  pub admins : (p : Place) (l : Layout) → layout_at s p ≡ Some l → admin_at new p ≡ f (admin_at s p)

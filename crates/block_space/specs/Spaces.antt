@@ -1,16 +1,16 @@
 -- Blocks at their places
-use Rattle.std.specs.Prelude.{◌≡◌, ◌≢◌, ℕ, ◌+◌, ◌-◌, ◌*◌, ◌<◌, ◌≤◌, ◌⊎◌, ◌^◌, ◌∷◌, ◌++◌, [], List, Option, Some, None, get_or, slice_get, length, if◌then◌else◌, nat_le, nat_lt, MatchOption, IfSome, Bool, true, false, drop, take}
+use Rattle.std.specs.Prelude.{◌≡◌, ℕ, ◌+◌, ◌-◌, ◌*◌, ◌<◌, ◌≤◌, ◌⊎◌, ◌^◌, ◌∷◌, [], List, Option, Some, None, get_or, slice_get, length, if◌then◌else◌, nat_le, nat_lt, MatchOption, IfSome, Bool, true, drop}
 use Rattle.std.specs.Option.{option_and_then, option_map_or}
+use Rattle.az_base.specs.declared.block_id.BlockId.{BlockId}
 use Rattle.az_base.specs.declared.word.Word.{Word}
 use Rattle.az_base.specs.declared.word.Word.TheVariants as word
 use Rattle.block_layouts.specs.declared.layout.Layout.{Layout}
 use Rattle.block_layouts.specs.Layouts.{len_of, quanta}
 use Rattle.quantum_space.specs.declared.admin.Admin.{Admin}
 use Rattle.quantum_space.specs.declared.place.Place.{Place}
-use Rattle.quantum_space.specs.declared.shade.Shade.{Shade}
 use Rattle.quantum_space.specs.AdminBytes.{admin_byte, admin_of}
 use Rattle.quantum_space.specs.AdminMaps.{subzone_bytes}
-use Rattle.quantum_space.specs.Regions.{Region', HasBlock, HasWord, IsFreed, IsPlaced, IsRoomier, quanta_in, room_of, with_byte, with_word}
+use Rattle.quantum_space.specs.Regions.{Region', HasBlock, HasWord, IsFreed, IsPlaced, IsRenotedRegion, IsRoomier, no_id, quanta_in, room_of, with_byte, with_word}
 use Rattle.block_space.specs.declared.space.Spot.{Spot}
 use Rattle.block_space.specs.declared.table.Kind.{Kind}
 use Rattle.block_space.specs.declared.table.Kind.TheVariants as kind
@@ -77,6 +77,10 @@ HasWordAt s p i = MatchOption (spot_of s p) ⊥ (λ x. HasWord (region s x.kind)
 abbrev pub word_at : Space' → Place → ℕ → Word
 word_at s p i = option_map_or (λ x. get_or (region s x.kind).words (x.at * (region s x.kind).width + i) word.Null) (spot_of s p) word.Null
 
+-- the id of the block at a place
+abbrev pub id_at : Space' → Place → BlockId
+id_at s p = option_map_or (λ x. get_or (region s x.kind).ids x.at no_id) (spot_of s p) no_id
+
 -- the admin byte of a quantum, 0 where there is no such quantum
 abbrev pub byte_at : Space' → Place → ℕ
 byte_at s p = option_map_or (λ x. get_or (region s x.kind).map.bytes x.at 0) (spot_of s p) 0
@@ -126,9 +130,9 @@ pub record IsSpace (s : Space') : Type 0 where
   pub rooms : s.table.room < 2 ^ 32
 
 -- a block was placed in the first hole of its kind's subzones, in one that was opened or in a new one
-pub record IsPlacedIn (r new : Region') (t after : Table') (k : Kind) (l : Layout) (p : Place) : Type 0 where
+pub record IsPlacedIn (r new : Region') (t after : Table') (k : Kind) (id : BlockId) (l : Layout) (p : Place) : Type 0 where
   pub index : ℕ
-  pub placed : IsPlaced r new l (index, p.quantum) (index * r.map.size + p.quantum)
+  pub placed : IsPlaced r new id l (index, p.quantum) (index * r.map.size + p.quantum)
   pub number : (index < length (numbers after k)) × (p.subzone ≡ get_or (numbers after k) index 0)
   pub table : ((index < r.opened) × (after ≡ t)) ⊎ ((index ≡ r.opened) × (after ≡ opened_with t k))
 
@@ -138,8 +142,8 @@ other kind.Small = kind.Medium
 other kind.Medium = kind.Small
 
 -- a block was placed for the first of the lengths
-pub record IsPlacedAt (s new : Space') (l : Layout) (p : Place) : Type 0 where
-  pub placed : IsPlacedIn (region s (kind_of (len_of l))) (region new (kind_of (len_of l))) s.table new.table (kind_of (len_of l)) l p
+pub record IsPlacedAt (s new : Space') (id : BlockId) (l : Layout) (p : Place) : Type 0 where
+  pub placed : IsPlacedIn (region s (kind_of (len_of l))) (region new (kind_of (len_of l))) s.table new.table (kind_of (len_of l)) id l p
   pub others : region new (other (kind_of (len_of l))) ≡ region s (other (kind_of (len_of l)))
   pub spare : new.spare ≡ drop 1 s.spare
   pub used : new.used ≡ s.used + quanta (len_of l)
@@ -180,14 +184,6 @@ with_admin s p a = with_byte_at s p (admin_byte a)
 abbrev pub with_word_at : Space' → Place → ℕ → Word → Space'
 with_word_at s p i w = option_map_or (λ x. with_region s x.kind (with_word (region s x.kind) x.at i w)) (spot_of s p) s
 
--- the same with another shade
-abbrev pub with_shade : Admin → Shade → Admin
-with_shade a x = record { shade = x; age = a.age; card = a.card; finalised = a.finalised }
-
--- the same with another age
-abbrev pub with_age : Admin → ℕ → Admin
-with_age a n = record { shade = a.shade; age = n; card = a.card; finalised = a.finalised }
-
 -- the same, remembered or not
 abbrev pub with_card : Admin → Bool → Admin
 with_card a on = record { shade = a.shade; age = a.age; card = on; finalised = a.finalised }
@@ -199,6 +195,13 @@ with_finalised a = record { shade = a.shade; age = a.age; card = a.card; finalis
 -- with these lengths of blocks to come
 abbrev pub with_spare : Space' → List ℕ → Space'
 with_spare s ns = record { small = s.small; medium = s.medium; table = s.table; spare = ns; used = s.used }
+
+-- all admin bytes were changed by a rule, and nothing else
+pub record IsRenotedSpace (f : ℕ → ℕ) (s new : Space') : Type 0 where
+  pub each : (k : Kind) → IsRenotedRegion f (region s k) (region new k)
+  pub table : new.table ≡ s.table
+  pub spare : new.spare ≡ s.spare
+  pub used : new.used ≡ s.used
 
 -- these are the admin bytes of the subzone with this number
 abbrev pub IsSubzoneMap : Space' → ℕ → List ℕ → Type 0

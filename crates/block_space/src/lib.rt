@@ -1,4 +1,20 @@
-//! Where blocks live: subzones of both kinds, in one list.
+//! Where blocks live: a map from places to blocks.
+//!
+//! A zone's blocks come and go in any order, and may not move. So memory is cut into subzones of two kinds, as in
+//! libauto. A small one has 4,096 quanta of 2 words, a medium one 256 quanta of 128 words. A block of up to 64 words lies
+//! in a small subzone, one of up to 4,096 words in a medium one. It takes 1 to 32 quanta in a row, the first that are
+//! free in the first subzone of its kind that has so many, and stays there until it is freed.
+//!
+//! A `Space` has the subzones of both kinds (two `Region`s) and a `Table`, which numbers them in the order in which they
+//! were opened. A `Place` is such a number and the block's first quantum. Beside the words of each block lie its id, its
+//! layout and one byte of what the collector notes of it (`Admin`). The quanta in use (`used`) are counted as small ones:
+//! 128 words take 64.
+//!
+//! Room is taken first. `reserve` takes it for blocks of given lengths, which come in that order, and is the only call
+//! that may want memory; `place` then puts each into its hole. All else is O(1), but for `free`, which is O(quanta of the
+//! block), `place`, which is O(quanta and words of the block) and what its search passes over, `reserve`, which is
+//! O(lengths still to come) besides what it adds, and `whiten_all` and `age_all`, which walk over the bytes of all
+//! subzones.
 #![tactic(auto)]
 
 mod space;

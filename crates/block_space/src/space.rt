@@ -1,18 +1,20 @@
 //! The blocks of a zone, each at its place.
-ghost use Rattle.std.specs.Prelude.{ℕ, ◌≡◌, ◌<◌, ◌≤◌, ◌+◌, ◌*◌, ◌++◌, ◌∷◌, [], length, get_or, slice_get, OnOk, OnErr, Some, None, MatchOption, IfSome, IsTrue, is_some, ◌^◌};
+ghost use Rattle.std.specs.Prelude.{ℕ, ◌≡◌, ◌<◌, ◌≤◌, ◌+◌, ◌*◌, ◌++◌, ◌∷◌, [], length, get_or, slice_get, OnOk, OnErr, Some, None, MatchOption, IfSome, IsTrue, is_some, min, ◌^◌};
 ghost use Rattle.std.specs.Option.{option_and_then};
 ghost use Rattle.block_layouts.specs.Layouts.{len_of, quanta};
 ghost use Rattle.quantum_space.specs.Regions.{Region', HasBlock, HasWord, IsRoomier, quanta_in, room_of};
-ghost use Rattle.quantum_space.specs.AdminBytes.{admin_of};
+ghost use Rattle.quantum_space.specs.AdminBytes.{admin_of, aged, whitened, with_age, with_shade};
+ghost use Rattle.quantum_space.specs.declared.admin.Admin.{Admin as AnAdmin};
+ghost use Rattle.quantum_space.specs.declared.shade.Shade.TheVariants as shade;
 ghost use Rattle.block_space.specs.Tables.{Table', numbers, opened_with};
-ghost use Rattle.block_space.specs.Spaces.{Space', kind_of, size_of, width_of, region, spot_at, spot_in, spot_of, layout_at, word_at, byte_at, admin_at, HasBlockAt, HasWordAt, IsRoomierSpace, IsFreedAt, IsTakenOff, IsPlacedAt, IsPlacedIn, IsSubzoneMap, AreLengths, IsCovered, block_quanta, kind_length, kind_quanta, list_quanta, with_admin, with_word_at, with_shade, with_age, with_card, with_finalised, with_spare};
-ghost use Rattle.block_space.specs.Maps.{HasBlockLess, HasBlockMore, IsSound};
+ghost use Rattle.block_space.specs.Spaces.{Space', kind_of, size_of, width_of, region, spot_at, spot_in, spot_of, layout_at, word_at, byte_at, admin_at, id_at, HasBlockAt, HasWordAt, IsRoomierSpace, IsFreedAt, IsTakenOff, IsPlacedAt, IsPlacedIn, IsRenotedSpace, IsSubzoneMap, AreLengths, IsCovered, block_quanta, kind_length, kind_quanta, list_quanta, with_admin, with_word_at, with_card, with_finalised, with_spare};
+ghost use Rattle.block_space.specs.Maps.{AreNoted, HasBlockLess, HasBlockMore, IsSound};
 ghost use Rattle.quantum_space.specs.declared.place.Place.{Place as APlace};
 ghost use Rattle.block_space.specs.declared.table.Kind.{Kind as AKind};
 
 use crate::spare::Spare;
 use crate::table::{Kind, Subzone, Table};
-use az_base::{NoMemory, Word};
+use az_base::{BlockId, NoMemory, Word};
 use block_layouts::Layout;
 use quantum_space::{Admin, Place, Region, Shade, quanta_in};
 use std::alloc::Global;
@@ -127,16 +129,22 @@ fn spot_in(subzone: Subzone, quantum: u32) -> Option<Spot>
 }
 
 /// Puts a block into the first hole of its kind's subzones, and says its place.
-fn place_in(region: &mut Region, table: &mut Table, kind: Kind, layout: Layout) -> Place
+fn place_in(
+    region: &mut Region,
+    table: &mut Table,
+    kind: Kind,
+    id: BlockId,
+    layout: Layout,
+) -> Place
     requires few { quanta_in region.old.width (len_of layout) ≤ 32 }
     requires room { quanta_in region.old.width (len_of layout) + 31 ≤ room_of region.old }
     requires size { region.old.map.size ≤ 4096 }
     requires opened { length (numbers table.old kind) ≡ region.old.opened }
     requires unopened { region.old.map.subzones ≤ region.old.opened + table.old.room }
-    ensures placed { IsPlacedIn region.old region.new table.old table.new kind layout result }
+    ensures placed { IsPlacedIn region.old region.new table.old table.new kind id layout result }
     ensures room { room_of region.old ≤ room_of region.new + quanta_in region.old.width (len_of layout) }
 {
-    let (index, quantum) = region.place(layout);
+    let (index, quantum) = region.place(id, layout);
     if index == table.count(kind) {
         table.open(kind);
     }
@@ -288,6 +296,7 @@ impl Space {
         requires lengths { AreLengths lengths.now }
         requires few { self.old.used + list_quanta self.old.spare + list_quanta lengths.now < 2 ^ 32 }
         requires covered { (k : AKind) → IsCovered (kind_quanta k self.old.spare + kind_quanta k lengths.now) (region self.old k) }
+        ensures same { IsRoomierSpace self.old self.new }
         ensures ok { OnOk result (self.new ≡ with_spare self.old (self.old.spare ++ lengths.now)) }
         ensures err { OnErr result (self.new ≡ self.old) }
     {
@@ -324,25 +333,25 @@ impl Space {
     /// where there is none, and takes its length off those that are to come. Its words are null or 0; it is white, of age
     /// 0, not remembered and not finalised. It takes no memory. O(quanta and words, and what no search for that length has
     /// passed over since the last free before it: at most the quanta of a subzone, and the subzones of the kind).
-    pub fn place(&mut self, layout: Layout) -> Place
+    pub fn place(&mut self, id: BlockId, layout: Layout) -> Place
         requires { slice_get self.old.spare 0 ≡ Some (len_of layout) }
-        ensures placed { IsPlacedAt self.old self.new layout result }
-        ensures more { HasBlockMore self.old self.new layout result }
+        ensures placed { IsPlacedAt self.old self.new id layout result }
+        ensures more { HasBlockMore self.old self.new id layout result }
     {
         self.is_sound();
-        self.place_first(layout)
+        self.place_first(id, layout)
     }
 
-    fn place_first(&mut self, layout: Layout) -> Place
+    fn place_first(&mut self, id: BlockId, layout: Layout) -> Place
         requires { slice_get self.old.spare 0 ≡ Some (len_of layout) }
-        ensures { IsPlacedAt self.old self.new layout result }
+        ensures { IsPlacedAt self.old self.new id layout result }
     {
         let kind = kind_of(layout.len());
         self.used += layout.quanta();
         self.spare.take_first();
         match kind {
-            Kind::Small => place_in(&mut self.small, &mut self.table, Kind::Small, layout),
-            Kind::Medium => place_in(&mut self.medium, &mut self.table, Kind::Medium, layout),
+            Kind::Small => place_in(&mut self.small, &mut self.table, Kind::Small, id, layout),
+            Kind::Medium => place_in(&mut self.medium, &mut self.table, Kind::Medium, id, layout),
         }
     }
 }
@@ -405,6 +414,20 @@ impl Space {
                 Kind::Medium => self.medium.has_word(spot.at, i as usize),
             },
             None => false,
+        }
+    }
+
+    /// The id of the block at a place. O(1).
+    pub fn id(&self, p: Place) -> BlockId
+        requires { HasBlockAt self.now p }
+        ensures { result ≡ id_at self.now p }
+    {
+        let Some(spot) = self.spot(p) else {
+            unreachable!()
+        };
+        match spot.kind {
+            Kind::Small => self.small.id(spot.at),
+            Kind::Medium => self.medium.id(spot.at),
         }
     }
 
@@ -509,6 +532,38 @@ impl Space {
                 ..admin
             },
         );
+    }
+
+    /// Makes the shade of each block white, and changes nothing else. O(quanta of the subzones).
+    pub fn whiten_all(&mut self)
+        ensures blocks { AreNoted (λ a. with_shade a shade.White) self.old self.new }
+        ensures bytes { IsRenotedSpace whitened self.old self.new }
+    {
+        self.is_sound();
+        self.whiten();
+    }
+
+    fn whiten(&mut self)
+        ensures { IsRenotedSpace whitened self.old self.new }
+    {
+        self.small.whiten();
+        self.medium.whiten();
+    }
+
+    /// Makes each block one older, up to 3, and changes nothing else. O(quanta of the subzones).
+    pub fn age_all(&mut self)
+        ensures blocks { AreNoted (λ a. with_age a (min 3 (a.age + 1))) self.old self.new }
+        ensures bytes { IsRenotedSpace aged self.old self.new }
+    {
+        self.is_sound();
+        self.age();
+    }
+
+    fn age(&mut self)
+        ensures { IsRenotedSpace aged self.old self.new }
+    {
+        self.small.age();
+        self.medium.age();
     }
 
     fn free_small(&mut self, at: usize)

@@ -1,4 +1,4 @@
-use az_base::Word;
+use az_base::{BlockId, ThreadNo, Word};
 use block_layouts::Layout;
 use block_space::Space;
 use quantum_space::{Admin, Place, Shade};
@@ -21,13 +21,20 @@ fn are_placed(space: &mut Space, lengths: &[u32], places: &[(u32, u32)]) -> bool
     lengths.len() == places.len()
 }
 
-/// Places a block of scanned memory, where its length is the first of those that are to come.
+/// The id of the first thread's block with this serial.
+fn id(serial: u32) -> Option<BlockId> {
+    let thread = ThreadNo::new(1)?;
+    Some(BlockId { thread, serial })
+}
+
+/// Places a block of scanned memory, where its length is the first of those that are to come. Its serial is that length.
 fn place(space: &mut Space, words: u32) -> Option<(u32, u32)> {
+    let id = id(words)?;
     let Ok(layout) = Layout::scanned(words) else {
         return None;
     };
     if space.next_length() == Some(words) {
-        let place = space.place(layout);
+        let place = space.place(id, layout);
         Some((place.subzone, place.quantum))
     } else {
         None
@@ -206,6 +213,52 @@ fn admin_bytes(rt: HostRuntime) {
         && begins(&space, 0, 4096, &[0xee, 0x83, 0])
         && admin(&space, place) == Some(noted);
     assert!(rt; right);
+}
+
+/// Whether the blocks at these places have these serials.
+fn have_serials(space: &Space, rows: &[(u32, u32, u32)]) -> bool {
+    for row in rows {
+        let place = Place {
+            subzone: row.0,
+            quantum: row.1,
+        };
+        if !space.has_block(place) {
+            return false;
+        }
+        if Some(space.id(place)) != id(row.2) {
+            return false;
+        }
+    }
+    true
+}
+
+#[test]
+fn ids_lie_beside_the_bytes(rt: HostRuntime) {
+    let mut space = Space::new(rt.alloc());
+    let right = are_placed(&mut space, &[4, 65, 2], &[(0, 0), (1, 0), (0, 2)])
+        && have_serials(&space, &[(0, 0, 4), (1, 0, 65), (0, 2, 2)])
+        && free(&mut space, 0, 0)
+        && are_placed(&mut space, &[3], &[(0, 0)])
+        && have_serials(&space, &[(0, 0, 3), (1, 0, 65), (0, 2, 2)]);
+    assert!(rt; right);
+}
+
+#[test]
+fn all_blocks_are_whitened_and_aged(rt: HostRuntime) {
+    let mut space = Space::new(rt.alloc());
+    let place = Place {
+        subzone: 1,
+        quantum: 0,
+    };
+    let placed = are_placed(&mut space, &[4, 129], &[(0, 0), (1, 0)]);
+    note(&mut space, place);
+    let noted = begins(&space, 1, 256, &[0xee, 0x83, 0]);
+    space.whiten_all();
+    let white = begins(&space, 1, 256, &[0xec, 0x83, 0]);
+    space.age_all();
+    space.age_all();
+    let old = begins(&space, 1, 256, &[0xec, 0x83, 0]);
+    assert!(rt; placed && noted && white && old && begins(&space, 0, 4096, &[0x88, 0x83, 0]));
 }
 
 #[test]

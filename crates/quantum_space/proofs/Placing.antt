@@ -3,6 +3,7 @@ use Rattle.std.proofs.lemmas.Bool.{eqb-true}
 use Rattle.std.specs.Bool.{⊤}
 use Rattle.std.proofs.Common.{MatchOption, Bool, true, false, ◌==◌, if◌then◌else◌, ◌≡◌, ◌≢◌, ◌⊎◌, inl, inr, ℕ, zero, suc, ◌+◌, ◌-◌, ◌*◌, ◌/◌, ◌%◌, ◌<◌, ◌≤◌, max, List, [], Option, Some, None, refl, sym, ap, ◌∙◌, subst, arith, length, get_or, set, get_or-set_same, get_or-set_other}
 use Rattle.std.proofs.Math.ListN.{length-set}
+use Rattle.az_base.specs.declared.block_id.BlockId.{BlockId}
 use Rattle.az_base.specs.declared.word.Word.{Word}
 use Rattle.block_layouts.specs.declared.layout.Layout.{Layout}
 use Rattle.block_layouts.specs.Layouts.{len_of}
@@ -109,17 +110,17 @@ pub block_used : (r : Region') (at : ℕ) (l : Layout) (k : ℕ) → Lies r at l
 block_used r at l k lies b e = elim (three_ways k at) [
   | inl s ↦ absurd (omega (arith, s, b))
   | inr x ↦ elim x [
-    | inl s ↦ subst (λ j. 0 < get_or r.map.bytes j 0) (sym s) lies.begins.0
+    | inl s ↦ subst (λ j. 0 < get_or r.map.bytes j 0) (sym s) (let b : 128 ≤ get_or r.map.bytes at 0 = lies.begins.0 in omega (arith, b))
     | inr s ↦ omega (arith, lies.goes_on k (omega (arith, s)) e)
   ]
 ]
 
 -- a block elsewhere stays, where the bytes of a hole alone changed
 module _ (r : Region') (bytes : List ℕ) (from end : ℕ) (same : SameOutside r.map.bytes bytes from end) where
-  pub lies_still : (layouts : List (Option Layout)) (words : List Word) (opened top at : ℕ) (l : Layout)
+  pub lies_still : (ids : List BlockId) (layouts : List (Option Layout)) (words : List Word) (opened top at : ℕ) (l : Layout)
       → ((k : ℕ) → at ≤ k → k < at + quanta_in r.width (len_of l) → (k < from) ⊎ (end ≤ k)) → 0 < quanta_in r.width (len_of l) → Lies r at l
-      → Lies (record { map = with_bytes r.map bytes; layouts = layouts; words = words; width = r.width; opened = opened; top = top }) at l
-  lies_still layouts words opened top at l apart some lies = record {
+      → Lies (record { map = with_bytes r.map bytes; ids = ids; layouts = layouts; words = words; width = r.width; opened = opened; top = top }) at l
+  lies_still ids layouts words opened top at l apart some lies = record {
     subzone = lies.subzone;
     quantum = lies.quantum;
     place = lies.place;
@@ -148,7 +149,7 @@ hole_fresh r n f at inv some first e = go (get_or r.layouts at None) refl
     go (Some l) x = absurd (let b = (inv.blocks at l x).begins.0 in omega (arith, free, b))
 
 -- a region with a block more
-module _ (r : Region') (inv : IsRegion r) (l : Layout) (f : ℕ × ℕ) (at : ℕ) (bytes : List ℕ) (words : List Word)
+module _ (r : Region') (inv : IsRegion r) (id : BlockId) (l : Layout) (f : ℕ × ℕ) (at : ℕ) (bytes : List ℕ) (words : List Word)
     (first : IsFirstOf r.map (quanta_in r.width (len_of l)) f)
     (place : at ≡ f.0 * r.map.size + f.1)
     (few : quanta_in r.width (len_of l) ≤ 32)
@@ -161,7 +162,7 @@ module _ (r : Region') (inv : IsRegion r) (l : Layout) (f : ℕ × ℕ) (at : �
   n = quanta_in r.width (len_of l)
 
   abbrev after : Region'
-  after = record { map = with_bytes r.map bytes; layouts = set r.layouts at (Some l); words = words; width = r.width; opened = max r.opened (f.0 + 1); top = max r.top (at + quanta_in r.width (len_of l)) }
+  after = record { map = with_bytes r.map bytes; ids = set r.ids at id; layouts = set r.layouts at (Some l); words = words; width = r.width; opened = max r.opened (f.0 + 1); top = max r.top (at + quanta_in r.width (len_of l)) }
 
   one_more : r.opened * r.map.size + r.map.size ≡ (r.opened + 1) * r.map.size
   one_more = omega arith
@@ -204,7 +205,7 @@ module _ (r : Region') (inv : IsRegion r) (l : Layout) (f : ℕ × ℕ) (at : �
       still : k ≢ at → Lies after k o
       still d =
           let was : Lies r k o = inv.blocks k o (sym (get_or-set_other r.layouts at k (Some l) None d) ∙ e) in
-          lies_still r bytes at (at + quanta_in r.width (len_of l)) same _ words _ _ k o (apart k o was) (some_quanta r.width (len_of o)) was
+          lies_still r bytes at (at + quanta_in r.width (len_of l)) same _ _ words _ _ k o (apart k o was) (some_quanta r.width (len_of o)) was
 
   top_opened : after.top ≤ after.opened * r.map.size
   top_opened = elim (found_where r n f inv few first) [
@@ -222,11 +223,12 @@ module _ (r : Region') (inv : IsRegion r) (l : Layout) (f : ℕ × ℕ) (at : �
         let z : f.0 * r.map.size ≡ r.opened * r.map.size = ap (λ y. y * r.map.size) p.0 in omega (arith, x, one_more, z, place))
   ]
 
-  pub region_placed : IsRegion (record { map = with_bytes r.map bytes; layouts = set r.layouts at (Some l); words = words; width = r.width; opened = max r.opened (f.0 + 1); top = max r.top (at + quanta_in r.width (len_of l)) })
+  pub region_placed : IsRegion (record { map = with_bytes r.map bytes; ids = set r.ids at id; layouts = set r.layouts at (Some l); words = words; width = r.width; opened = max r.opened (f.0 + 1); top = max r.top (at + quanta_in r.width (len_of l)) })
   region_placed = record {
     wide = inv.wide;
     large = inv.large;
     sized = same_bytes ∙ inv.sized;
+    ids = length-set r.ids at id ∙ inv.ids ∙ sym same_bytes;
     layouts = length-set r.layouts at (Some l) ∙ inv.layouts ∙ sym same_bytes;
     words = same_words ∙ inv.words ∙ ap (λ x. x * r.width) (sym same_bytes);
     enough = omega (arith, inv.enough, first.there);
@@ -256,7 +258,7 @@ module _ (r : Region') (inv : IsRegion r) (l : Layout) (at : ℕ) (bytes : List 
     (free : AllAre bytes at (at + quanta_in r.width (len_of l)) 0)
     (same : SameOutside r.map.bytes bytes at (at + quanta_in r.width (len_of l))) where
   abbrev gone : Region'
-  gone = record { map = with_bytes r.map bytes; layouts = set r.layouts at None; words = r.words; width = r.width; opened = r.opened; top = r.top }
+  gone = record { map = with_bytes r.map bytes; ids = r.ids; layouts = set r.layouts at None; words = r.words; width = r.width; opened = r.opened; top = r.top }
 
   this : Lies r at l
   this = inv.blocks at l stored
@@ -298,13 +300,14 @@ module _ (r : Region') (inv : IsRegion r) (l : Layout) (at : ℕ) (bytes : List 
       still : k ≢ at → Lies gone k o
       still d =
           let was : Lies r k o = inv.blocks k o (sym (get_or-set_other r.layouts at k None None d) ∙ e) in
-          lies_still r bytes at (at + quanta_in r.width (len_of l)) same _ r.words _ _ k o (apart_from_it k o d was) (some_quanta r.width (len_of o)) was
+          lies_still r bytes at (at + quanta_in r.width (len_of l)) same _ _ r.words _ _ k o (apart_from_it k o d was) (some_quanta r.width (len_of o)) was
 
-  pub region_freed : IsRegion (record { map = with_bytes r.map bytes; layouts = set r.layouts at None; words = r.words; width = r.width; opened = r.opened; top = r.top })
+  pub region_freed : IsRegion (record { map = with_bytes r.map bytes; ids = r.ids; layouts = set r.layouts at None; words = r.words; width = r.width; opened = r.opened; top = r.top })
   region_freed = record {
     wide = inv.wide;
     large = inv.large;
     sized = same_bytes ∙ inv.sized;
+    ids = inv.ids ∙ sym same_bytes;
     layouts = length-set r.layouts at None ∙ inv.layouts ∙ sym same_bytes;
     words = inv.words ∙ ap (λ x. x * r.width) (sym same_bytes);
     enough = inv.enough;
@@ -380,13 +383,14 @@ pub written : (m m1 m2 n : AdminMap') (at end : ℕ) → m1 ≡ m → m2 ≡ wit
 written m m1 m2 n at end e f c all l b =
     written_here m n at end (subst (λ (x : AdminMap'). IsChanged (with_bytes x (set x.bytes at new_byte)) n (at + 1) end) e (subst (λ (x : AdminMap'). IsChanged x n (at + 1) end) f c)) all l b
 
-pub same_region : (m m1 : AdminMap') (ls ls1 : List (Option Layout)) (ws : List Word) (w o o1 t t1 : ℕ) → m1 ≡ m → ls1 ≡ ls → o1 ≡ o → t1 ≡ t
-    → IsRegion (record { map = m; layouts = ls; words = ws; width = w; opened = o; top = t }) → IsRegion (record { map = m1; layouts = ls1; words = ws; width = w; opened = o1; top = t1 })
-same_region m m1 ls ls1 ws w o o1 t t1 e d f g i =
-    subst (λ (x : AdminMap'). IsRegion (record { map = x; layouts = ls1; words = ws; width = w; opened = o1; top = t1 })) (sym e)
-    (subst (λ (x : List (Option Layout)). IsRegion (record { map = m; layouts = x; words = ws; width = w; opened = o1; top = t1 })) (sym d)
-    (subst (λ (x : ℕ). IsRegion (record { map = m; layouts = ls; words = ws; width = w; opened = x; top = t1 })) (sym f)
-    (subst (λ (x : ℕ). IsRegion (record { map = m; layouts = ls; words = ws; width = w; opened = o; top = x })) (sym g) i)))
+pub same_region : (m m1 : AdminMap') (is is1 : List BlockId) (ls ls1 : List (Option Layout)) (ws : List Word) (w o o1 t t1 : ℕ) → m1 ≡ m → is1 ≡ is → ls1 ≡ ls → o1 ≡ o → t1 ≡ t
+    → IsRegion (record { map = m; ids = is; layouts = ls; words = ws; width = w; opened = o; top = t }) → IsRegion (record { map = m1; ids = is1; layouts = ls1; words = ws; width = w; opened = o1; top = t1 })
+same_region m m1 is is1 ls ls1 ws w o o1 t t1 e h d f g i =
+    subst (λ (x : AdminMap'). IsRegion (record { map = x; ids = is1; layouts = ls1; words = ws; width = w; opened = o1; top = t1 })) (sym e)
+    (subst (λ (x : List BlockId). IsRegion (record { map = m; ids = x; layouts = ls1; words = ws; width = w; opened = o1; top = t1 })) (sym h)
+    (subst (λ (x : List (Option Layout)). IsRegion (record { map = m; ids = is; layouts = x; words = ws; width = w; opened = o1; top = t1 })) (sym d)
+    (subst (λ (x : ℕ). IsRegion (record { map = m; ids = is; layouts = ls; words = ws; width = w; opened = x; top = t1 })) (sym f)
+    (subst (λ (x : ℕ). IsRegion (record { map = m; ids = is; layouts = ls; words = ws; width = w; opened = o; top = x })) (sym g) i))))
 
 pub same_room : (a n : ℕ) (m m1 : AdminMap') (o o1 t t1 : ℕ) → m1 ≡ m → o1 ≡ o → t1 ≡ t
     → a ≤ (o * m.size - t) + (m.subzones - o) * (m.size - 31) + n → a ≤ (o1 * m1.size - t1) + (m1.subzones - o1) * (m1.size - 31) + n
@@ -403,11 +407,12 @@ no_block : (at : ℕ) (l : Layout) → get_or {A = Option Layout} [] at None ≡
 no_block at l e = let f = no_layouts at in cc
 
 pub region_none : (m : AdminMap') (size width : ℕ) → 64 ≤ size → 0 < width → m.size ≡ size → m.subzones ≡ 0 → m.bytes ≡ []
-    → IsRegion (record { map = m; layouts = []; words = []; width = width; opened = 0; top = 0 })
+    → IsRegion (record { map = m; ids = []; layouts = []; words = []; width = width; opened = 0; top = 0 })
 region_none m size width large wide e f g = record {
   wide = wide;
   large = omega (arith, large, e);
   sized = ap length g ∙ (let z : 0 ≡ 0 * m.size = omega arith in z) ∙ ap (λ x. x * m.size) (sym f);
+  ids = sym (ap length g);
   layouts = sym (ap length g);
   words = (let z : 0 ≡ 0 * width = omega arith in z) ∙ ap (λ x. x * width) (sym (ap length g));
   enough = omega arith;
@@ -418,15 +423,16 @@ region_none m size width large wide e f g = record {
 }
 
 -- a subzone more
-pub region_grown : (r : Region') (m : AdminMap') (ls : List (Option Layout)) (ws : List Word) → IsRegion r → IsGrown r.map m
-    → length ls ≡ length r.layouts + r.map.size → length ws ≡ length r.words + r.map.size * r.width
+pub region_grown : (r : Region') (m : AdminMap') (is : List BlockId) (ls : List (Option Layout)) (ws : List Word) → IsRegion r → IsGrown r.map m
+    → length is ≡ length r.ids + r.map.size → length ls ≡ length r.layouts + r.map.size → length ws ≡ length r.words + r.map.size * r.width
     → ((k : ℕ) → get_or ls k None ≡ get_or r.layouts k None)
-    → IsRegion (record { map = m; layouts = ls; words = ws; width = r.width; opened = r.opened; top = r.top })
-region_grown r m ls ws inv g els ews same = record {
+    → IsRegion (record { map = m; ids = is; layouts = ls; words = ws; width = r.width; opened = r.opened; top = r.top })
+region_grown r m is ls ws inv g eis els ews same = record {
   wide = inv.wide;
   large = omega (arith, inv.large, g.size);
   sized = g.count ∙ (let e : length r.map.bytes + r.map.size ≡ (r.map.subzones + 1) * r.map.size = omega (arith, inv.sized, row_more r.map.subzones r.map.size) in e)
       ∙ ap (λ x. x * r.map.size) (sym g.subzones) ∙ ap (λ x. m.subzones * x) (sym g.size);
+  ids = omega (arith, eis, inv.ids, g.count);
   layouts = omega (arith, els, inv.layouts, g.count);
   words = (let d : (length r.map.bytes + r.map.size) * r.width ≡ length r.map.bytes * r.width + r.map.size * r.width = omega arith in omega (arith, ews, inv.words, d)) ∙ ap (λ x. x * r.width) (sym g.count);
   enough = omega (arith, inv.enough, g.subzones);
@@ -436,7 +442,7 @@ region_grown r m ls ws inv g els ews same = record {
   blocks = λ at l e. still at l (inv.blocks at l (sym (same at) ∙ e));
 }
   where
-    still : (at : ℕ) (l : Layout) → Lies r at l → Lies (record { map = m; layouts = ls; words = ws; width = r.width; opened = r.opened; top = r.top }) at l
+    still : (at : ℕ) (l : Layout) → Lies r at l → Lies (record { map = m; ids = is; layouts = ls; words = ws; width = r.width; opened = r.opened; top = r.top }) at l
     still at l lies = record {
       subzone = lies.subzone;
       quantum = lies.quantum;
@@ -453,6 +459,7 @@ region_noted r at byte l inv stored first = record {
   wide = inv.wide;
   large = inv.large;
   sized = length-set r.map.bytes at byte ∙ inv.sized;
+  ids = inv.ids ∙ sym (length-set r.map.bytes at byte);
   layouts = inv.layouts ∙ sym (length-set r.map.bytes at byte);
   words = inv.words ∙ ap (λ x. x * r.width) (sym (length-set r.map.bytes at byte));
   enough = inv.enough;
@@ -488,6 +495,7 @@ region_written r at i w inv = record {
   wide = inv.wide;
   large = inv.large;
   sized = inv.sized;
+  ids = inv.ids;
   layouts = inv.layouts;
   words = length-set r.words (at * r.width + i) w ∙ inv.words;
   enough = inv.enough;
@@ -521,7 +529,7 @@ ends_within r s q l inv b e =
 
 -- regions that only got roomier
 pub roomier_itself : (r : Region') → IsRoomier r r
-roomier_itself r = record { size = refl; subzones = omega arith; width = refl; opened = refl; top = refl; bytes = λ k. refl; layouts = λ k. refl; words = λ k. refl }
+roomier_itself r = record { size = refl; subzones = omega arith; width = refl; opened = refl; top = refl; bytes = λ k. refl; ids = λ k. refl; layouts = λ k. refl; words = λ k. refl }
 
 pub roomier_more : (a b c : Region') → IsRoomier a b → IsRoomier b c → IsRoomier a c
 roomier_more a b c f g = record {
@@ -531,6 +539,7 @@ roomier_more a b c f g = record {
   opened = g.opened ∙ f.opened;
   top = g.top ∙ f.top;
   bytes = λ k. g.bytes k ∙ f.bytes k;
+  ids = λ k. g.ids k ∙ f.ids k;
   layouts = λ k. g.layouts k ∙ f.layouts k;
   words = λ k. g.words k ∙ f.words k;
 }

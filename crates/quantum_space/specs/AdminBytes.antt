@@ -1,5 +1,5 @@
 -- The admin byte of a quantum that begins a block
-use Rattle.std.specs.Prelude.{ℕ, ◌+◌, ◌*◌, ◌/◌, ◌%◌, ◌==◌, Bool, if◌then◌else◌}
+use Rattle.std.specs.Prelude.{ℕ, ◌+◌, ◌-◌, ◌*◌, ◌/◌, ◌%◌, ◌==◌, Bool, false, ◌&&◌, nat_le, nat_lt, if◌then◌else◌}
 use Rattle.quantum_space.specs.declared.shade.Shade.{Shade}
 use Rattle.quantum_space.specs.declared.shade.Shade.TheVariants as shade
 use Rattle.quantum_space.specs.declared.admin.Admin.{Admin}
@@ -25,3 +25,23 @@ shade_of n = if n == 1 then shade.Grey else (if n == 2 then shade.Black else sha
 -- what a byte tells
 abbrev pub admin_of : ℕ → Admin
 admin_of b = record { shade = shade_of (b % 4); age = (b / 4) % 8; card = (b / 32) % 2 == 1; finalised = (b / 64) % 2 == 1 }
+
+-- the same with another shade
+abbrev pub with_shade : Admin → Shade → Admin
+with_shade a x = record { shade = x; age = a.age; card = a.card; finalised = a.finalised }
+
+-- the same with another age
+abbrev pub with_age : Admin → ℕ → Admin
+with_age a n = record { shade = a.shade; age = n; card = a.card; finalised = a.finalised }
+
+-- the byte is of a quantum in use that begins a block
+abbrev pub begins_block : ℕ → Bool
+begins_block b = if b == 131 then false else nat_le 128 b
+
+-- the byte with the shade white, where it begins a block
+abbrev pub whitened : ℕ → ℕ
+whitened b = if begins_block b then b - b % 4 else b
+
+-- the byte with an age one higher, where it begins a block and the age was below 3
+abbrev pub aged : ℕ → ℕ
+aged b = if begins_block b && nat_lt ((b / 4) % 8) 3 then b + 4 else b

@@ -69,3 +69,10 @@ pub record IsGrown (old new : AdminMap') : Type 0 where
   pub subzones : new.subzones ≡ old.subzones + 1
   pub count : length new.bytes ≡ length old.bytes + old.size
   pub same : (k : ℕ) → get_or new.bytes k 0 ≡ get_or old.bytes k 0
+
+-- each byte was changed by a rule, and nothing else
+pub record IsRenoted (f : ℕ → ℕ) (old new : AdminMap') : Type 0 where
+  pub size : new.size ≡ old.size
+  pub subzones : new.subzones ≡ old.subzones
+  pub count : length new.bytes ≡ length old.bytes
+  pub bytes : (k : ℕ) → get_or new.bytes k 0 ≡ f (get_or old.bytes k 0)

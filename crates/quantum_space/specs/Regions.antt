@@ -1,16 +1,19 @@
 -- The blocks of one kind, by quantum
 use Rattle.std.specs.Prelude.{◌≡◌, ◌≢◌, ℕ, ◌+◌, ◌-◌, ◌*◌, ◌/◌, ◌%◌, ◌==◌, ◌<◌, ◌≤◌, ◌⊎◌, List, Option, Some, None, get_or, set, length, if◌then◌else◌, MatchOption, ⊤}
+use Rattle.az_base.specs.declared.block_id.BlockId.{BlockId}
+use Rattle.az_base.specs.Ids.{id_of}
 use Rattle.az_base.specs.declared.word.Class.{Class}
 use Rattle.az_base.specs.declared.word.Class.TheVariants as class
 use Rattle.az_base.specs.declared.word.Word.{Word}
 use Rattle.az_base.specs.declared.word.Word.TheVariants as word
 use Rattle.block_layouts.specs.declared.layout.Layout.{Layout}
 use Rattle.block_layouts.specs.Layouts.{len_of, class_at}
-use Rattle.quantum_space.specs.AdminMaps.{AdminMap', AllAre, IsFirstOf, SameOutside, with_bytes}
+use Rattle.quantum_space.specs.AdminMaps.{AdminMap', AllAre, IsFirstOf, IsRenoted, SameOutside, with_bytes}
 
--- the admin bytes; the layout at the first quantum of each block; the words, so many a quantum; how many subzones were opened; and a quantum from which on none is in use
+-- the admin bytes; the id and the layout at the first quantum of each block; the words, so many a quantum; how many subzones were opened; and a quantum from which on none is in use
 pub record Region' : Type 0 where
   pub map : AdminMap'
+  pub ids : List BlockId
   pub layouts : List (Option Layout)
   pub words : List Word
   pub width : ℕ
@@ -29,9 +32,13 @@ new_byte = 128
 abbrev pub further_byte : ℕ
 further_byte = 131
 
+-- what stands among the ids where no block begins
+abbrev pub no_id : BlockId
+no_id = id_of 1 0
+
 -- a byte with which a block may begin: of a quantum in use, no further one, with an age of at most 3
 abbrev pub IsFirstByte : ℕ → Type 0
-IsFirstByte b = (0 < b) × (b ≢ further_byte) × ((b / 4) % 8 ≤ 3)
+IsFirstByte b = (128 ≤ b) × (b ≢ further_byte) × ((b / 4) % 8 ≤ 3)
 
 -- a block with this layout lies at this quantum
 pub record Lies (r : Region') (at : ℕ) (l : Layout) : Type 0 where
@@ -48,6 +55,7 @@ pub record IsRegion (r : Region') : Type 0 where
   pub wide : 0 < r.width
   pub large : 64 ≤ r.map.size
   pub sized : length r.map.bytes ≡ r.map.subzones * r.map.size
+  pub ids : length r.ids ≡ length r.map.bytes
   pub layouts : length r.layouts ≡ length r.map.bytes
   pub words : length r.words ≡ length r.map.bytes * r.width
   pub enough : r.opened ≤ r.map.subzones
@@ -76,7 +84,7 @@ abbrev pub AreNew : List Word → ℕ → ℕ → Layout → Type 0
 AreNew words from len l = (i : ℕ) → i < len → get_or words (from + i) word.Null ≡ new_word (class_at l i)
 
 -- a block was placed in the first hole, in a subzone that was opened or in the next
-pub record IsPlaced (old new : Region') (l : Layout) (found : ℕ × ℕ) (at : ℕ) : Type 0 where
+pub record IsPlaced (old new : Region') (id : BlockId) (l : Layout) (found : ℕ × ℕ) (at : ℕ) : Type 0 where
   pub hole : IsFirstOf old.map (quanta_in old.width (len_of l)) found
   pub place : at ≡ found.0 * old.map.size + found.1
   pub inside : at < length old.layouts
@@ -84,6 +92,7 @@ pub record IsPlaced (old new : Region') (l : Layout) (found : ℕ × ℕ) (at : 
   pub opens : ((found.0 < old.opened) × (new.opened ≡ old.opened)) ⊎ ((found.0 ≡ old.opened) × (found.1 ≡ 0) × (new.opened ≡ old.opened + 1))
   pub map : new.map ≡ with_bytes old.map new.map.bytes
   pub width : new.width ≡ old.width
+  pub ids : new.ids ≡ set old.ids at id
   pub layouts : new.layouts ≡ set old.layouts at (Some l)
   pub first : get_or new.map.bytes at 0 ≡ new_byte
   pub further : AllAre new.map.bytes (at + 1) (at + quanta_in old.width (len_of l)) further_byte
@@ -94,7 +103,7 @@ pub record IsPlaced (old new : Region') (l : Layout) (found : ℕ × ℕ) (at : 
 -- a block was freed
 pub record IsFreed (old new : Region') (l : Layout) (at : ℕ) : Type 0 where
   pub map : new.map ≡ with_bytes old.map new.map.bytes
-  pub rest : new ≡ record { map = new.map; layouts = set old.layouts at None; words = old.words; width = old.width; opened = old.opened; top = old.top }
+  pub rest : new ≡ record { map = new.map; ids = old.ids; layouts = set old.layouts at None; words = old.words; width = old.width; opened = old.opened; top = old.top }
   pub free : AllAre new.map.bytes at (at + quanta_in old.width (len_of l)) 0
   pub bytes : SameOutside old.map.bytes new.map.bytes at (at + quanta_in old.width (len_of l))
 
@@ -106,16 +115,17 @@ pub record IsRoomier (old new : Region') : Type 0 where
   pub opened : new.opened ≡ old.opened
   pub top : new.top ≡ old.top
   pub bytes : (k : ℕ) → get_or new.map.bytes k 0 ≡ get_or old.map.bytes k 0
+  pub ids : (k : ℕ) → get_or new.ids k no_id ≡ get_or old.ids k no_id
   pub layouts : (k : ℕ) → get_or new.layouts k None ≡ get_or old.layouts k None
   pub words : (k : ℕ) → get_or new.words k word.Null ≡ get_or old.words k word.Null
 
 -- with this byte at a quantum
 abbrev pub with_byte : Region' → ℕ → ℕ → Region'
-with_byte r at byte = record { map = with_bytes r.map (set r.map.bytes at byte); layouts = r.layouts; words = r.words; width = r.width; opened = r.opened; top = r.top }
+with_byte r at byte = record { map = with_bytes r.map (set r.map.bytes at byte); ids = r.ids; layouts = r.layouts; words = r.words; width = r.width; opened = r.opened; top = r.top }
 
 -- with this word, counted from the first quantum's first
 abbrev pub with_word : Region' → ℕ → ℕ → Word → Region'
-with_word r at i w = record { map = r.map; layouts = r.layouts; words = set r.words (at * r.width + i) w; width = r.width; opened = r.opened; top = r.top }
+with_word r at i w = record { map = r.map; ids = r.ids; layouts = r.layouts; words = set r.words (at * r.width + i) w; width = r.width; opened = r.opened; top = r.top }
 
 -- a block of at least so many words begins at this quantum
 abbrev pub HasWord : Region' → ℕ → ℕ → Type 0
@@ -124,3 +134,8 @@ HasWord r at i = MatchOption (get_or r.layouts at None) ⊥ (λ l. i < len_of l)
 -- a block begins at this quantum
 abbrev pub HasBlock : Region' → ℕ → Type 0
 HasBlock r at = MatchOption (get_or r.layouts at None) ⊥ (λ l. ⊤)
+
+-- all bytes were changed by a rule, and nothing else
+pub record IsRenotedRegion (f : ℕ → ℕ) (old new : Region') : Type 0 where
+  pub map : IsRenoted f old.map new.map
+  pub rest : new ≡ record { map = new.map; ids = old.ids; layouts = old.layouts; words = old.words; width = old.width; opened = old.opened; top = old.top }

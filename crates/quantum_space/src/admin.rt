@@ -1,8 +1,10 @@
 //! What the collector notes of a block, and the byte that tells it.
-ghost use Rattle.std.specs.Prelude.{◌≡◌, ◌≤◌, ◌<◌, ⊤, [], ◌∷◌, ◌/◌, ◌%◌, ◌==◌, codes};
+ghost use Rattle.std.specs.Prelude.{◌≡◌, ◌≤◌, ◌<◌, ⊤, [], ◌∷◌, ◌/◌, ◌%◌, ◌==◌, ◌+◌, min, codes, ℕ};
 ghost use Rattle.std.specs.Int.RustNames.{bit_and};
 ghost use Rattle.quantum_space.specs.declared.admin.Admin.{Admin as AnAdmin};
-ghost use Rattle.quantum_space.specs.AdminBytes.{admin_byte, admin_of, flag_bits, shade_bits, shade_of};
+ghost use Rattle.quantum_space.specs.AdminBytes.{admin_byte, admin_of, aged, begins_block, flag_bits, shade_bits, shade_of, whitened, with_age, with_shade};
+ghost use Rattle.quantum_space.specs.Regions.{IsFirstByte};
+ghost use Rattle.quantum_space.specs.declared.shade.Shade.TheVariants.{White};
 
 use crate::shade::Shade;
 use bitflags::{Flag, Flags, bitflag_items};
@@ -16,6 +18,9 @@ pub struct Admin {
     pub card: bool,
     pub finalised: bool,
 }
+
+/// The byte of each further quantum of a block.
+pub const FURTHER: u8 = 0x83;
 
 /// The named bits of an admin byte.
 #[derive(Clone, Copy, Debug, PartialEq, Eq)]
@@ -121,7 +126,46 @@ fn has(byte: u8, flag: AdminFlags) -> bool
     AdminFlags::from_bits_retain(byte).contains(flag)
 }
 
+/// Whether the byte is of a quantum in use that begins a block.
+fn begins_block(byte: u8) -> bool
+    ensures { result ≡ begins_block byte }
+{
+    byte != FURTHER && byte >= AdminFlags::IN_USE.bits()
+}
+
+/// The byte with the shade white, where it begins a block. O(1).
+pub fn whitened(byte: u8) -> u8
+    ensures { result ≡ whitened byte }
+{
+    if begins_block(byte) {
+        byte - byte % 4
+    } else {
+        byte
+    }
+}
+
+/// The byte with an age one higher, where it begins a block whose age is below 3. O(1).
+pub fn aged(byte: u8) -> u8
+    ensures { result ≡ aged byte }
+{
+    if begins_block(byte) && byte / 4 % 8 < 3 {
+        byte + 4
+    } else {
+        byte
+    }
+}
+
 /// A byte tells what was noted in it.
 pub fn bytes_tell_what_was_noted()
     ensures { (a : AnAdmin) → a.age ≤ 3 → admin_of (admin_byte a) ≡ a }
+{}
+
+/// A byte that was made white tells all that it told but the shade.
+pub fn whitened_bytes_tell_the_rest()
+    ensures { (b : ℕ) → IsFirstByte b → (IsFirstByte (whitened b)) × (admin_of (whitened b) ≡ with_shade (admin_of b) White) }
+{}
+
+/// A byte that was aged tells all that it told but the age, which is one higher, up to 3.
+pub fn aged_bytes_tell_the_rest()
+    ensures { (b : ℕ) → IsFirstByte b → (IsFirstByte (aged b)) × (admin_of (aged b) ≡ with_age (admin_of b) (min 3 ((admin_of b).age + 1))) }
 {}

@@ -7,8 +7,10 @@
 ghost use Rattle.std.specs.Prelude.{ℕ, ◌≡◌, ◌<◌, ◌≤◌, ◌+◌, ◌*◌, ◌^◌, max, length, get_or, set, MatchOption, OnOk, OnErr, []};
 ghost use Rattle.std.specs.Vec.{vec_capacity};
 ghost use Rattle.quantum_space.specs.Holes.{IsFirstHole, NoHoleWithin};
-ghost use Rattle.quantum_space.specs.AdminMaps.{AllAre, HasNoHole, IsChanged, IsFirstIn, IsFirstOf, IsGrown, IsLength, SameOutside, subzone_bytes, with_bytes};
+ghost use Rattle.quantum_space.specs.AdminBytes.{aged, whitened};
+ghost use Rattle.quantum_space.specs.AdminMaps.{AllAre, HasNoHole, IsChanged, IsFirstIn, IsFirstOf, IsGrown, IsLength, IsRenoted, SameOutside, subzone_bytes, with_bytes};
 
+use crate::admin::{aged, whitened};
 use crate::holes::first_hole;
 use az_base::NoMemory;
 use std::alloc::Global;
@@ -191,6 +193,20 @@ impl AdminMap {
         zero(&mut self.bytes, from, from + len);
     }
 
+    /// Makes the shade of each block white. O(quanta).
+    pub fn whiten(&mut self)
+        ensures { IsRenoted whitened self.old self.new }
+    {
+        whiten_bytes(&mut self.bytes);
+    }
+
+    /// Makes each block one older, up to 3. O(quanta).
+    pub fn age(&mut self)
+        ensures { IsRenoted aged self.old self.new }
+    {
+        age_bytes(&mut self.bytes);
+    }
+
     /// One free subzone more, at the end. NoMemory leaves all as it was. O(quanta of a subzone).
     pub fn grow(&mut self) -> Result<(), NoMemory>
         ensures ok { OnOk result (IsGrown self.old self.new) }
@@ -243,6 +259,26 @@ fn zero(bytes: &mut Vec<u8>, from: usize, end: usize)
 {
     for at in from..end {
         bytes[at] = 0;
+    }
+}
+
+/// Makes the shade of each block white.
+fn whiten_bytes(bytes: &mut Vec<u8>)
+    ensures length { length bytes.new.items ≡ length bytes.old.items }
+    ensures each { (k : ℕ) → get_or bytes.new.items k 0 ≡ whitened (get_or bytes.old.items k 0) }
+{
+    for byte in bytes.iter_mut() {
+        *byte = whitened(*byte);
+    }
+}
+
+/// Makes each block one older, up to 3.
+fn age_bytes(bytes: &mut Vec<u8>)
+    ensures length { length bytes.new.items ≡ length bytes.old.items }
+    ensures each { (k : ℕ) → get_or bytes.new.items k 0 ≡ aged (get_or bytes.old.items k 0) }
+{
+    for byte in bytes.iter_mut() {
+        *byte = aged(*byte);
     }
 }
 

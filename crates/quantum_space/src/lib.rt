@@ -2,7 +2,8 @@
 //!
 //! Memory is cut into subzones of quanta, each with one admin byte, as in libauto. A `Region` has the subzones of one
 //! kind with their blocks. A block comes to lie in the first hole that is long enough, in the first subzone that has one;
-//! its words begin at its first quantum. `Admin` is what the byte of that quantum tells.
+//! its words begin at its first quantum. `Admin` is what the byte of that quantum tells. Bytes, ids, layouts and words
+//! are a list each over all subzones of the kind, so that whitening and ageing all blocks are walks over bytes.
 //!
 //! A `Graph` tells the blocks that were there as a cycle began, what anchors them and who refers to whom, and keeps a
 //! shade for each block. A contract sees it in three parts: its `shape`, which no collection changes; its shades; and
@@ -21,7 +22,10 @@ mod place;
 mod region;
 mod shade;
 
-pub use admin::{Admin, AdminFlags, bytes_tell_what_was_noted};
+pub use admin::{
+    Admin, AdminFlags, aged_bytes_tell_the_rest, bytes_tell_what_was_noted,
+    whitened_bytes_tell_the_rest,
+};
 pub use graph::{Found, Graph};
 pub use greys::Greys;
 pub use place::{Place, places_are_ordered_by_subzone};

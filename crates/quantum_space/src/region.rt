@@ -1,28 +1,29 @@
-//! The blocks of one kind: their admin bytes, layouts and words, each in one list by quantum. A block's words begin at
-//! its first quantum.
+//! The blocks of one kind: their admin bytes, ids, layouts and words, each in one list by quantum. A block's words begin
+//! at its first quantum.
 ghost use Rattle.std.specs.Prelude.{ℕ, ◌≡◌, ◌≢◌, ◌<◌, ◌≤◌, ◌+◌, ◌-◌, ◌*◌, length, get_or, set, None, Some, ◌^◌, ◌⊎◌, IfSome, IsTrue, is_some, MatchOption, OnOk, OnErr};
 ghost use Rattle.block_layouts.specs.Layouts.{len_of};
 ghost use Rattle.block_layouts.specs.declared.layout.Layout.{Layout as ALayout};
-ghost use Rattle.quantum_space.specs.Regions.{AreNew, IsRegion, Lies, Region', HasBlock, HasWord, IsFirstByte, IsFreed, IsPlaced, IsRoomier, SameWords, new_word, quanta_in, room_of, with_byte, with_word};
+ghost use Rattle.quantum_space.specs.Regions.{AreNew, IsRegion, Lies, Region', HasBlock, HasWord, IsFirstByte, IsFreed, IsPlaced, IsRenotedRegion, IsRoomier, SameWords, new_word, no_id, quanta_in, room_of, with_byte, with_word};
+ghost use Rattle.quantum_space.specs.AdminBytes.{aged, whitened};
 ghost use Rattle.quantum_space.specs.AdminMaps.{subzone_bytes};
 ghost use Rattle.std.specs.Vec.{vec_capacity};
 ghost use Rattle.az_base.specs.declared.word.Word.TheVariants.{Null};
 
+use crate::admin::FURTHER;
 use crate::admin_map::{AdminMap, append};
-use az_base::{Class, NoMemory, Word};
+use az_base::{BlockId, Class, NoMemory, ThreadNo, Word};
 use block_layouts::Layout;
 use std::alloc::Global;
 use std::marker::Model;
 
-/// The byte of a new block's first quantum, and that of each further one.
+/// The byte of a new block's first quantum.
 const NEW: u8 = 0x80;
-
-const FURTHER: u8 = 0x83;
 
 /// All subzones of one kind. Those that were not yet opened hold no block: they are room for more.
 #[derive(Drop)]
 pub struct Region {
     map: AdminMap,
+    ids: Vec<BlockId>,
     layouts: Vec<Option<Layout>>,
     words: Vec<Word>,
     width: usize,
@@ -35,9 +36,9 @@ impl Model for Region {
 
     ghost Value = { Region' };
 
-    ghost view = { λ r. record { map = r.map; layouts = r.layouts.items; words = r.words.items; width = r.width; opened = r.opened; top = r.top } };
+    ghost view = { λ r. record { map = r.map; ids = r.ids.items; layouts = r.layouts.items; words = r.words.items; width = r.width; opened = r.opened; top = r.top } };
 
-    ghost invariant = { λ r. IsRegion (record { map = r.map; layouts = r.layouts.items; words = r.words.items; width = r.width; opened = r.opened; top = r.top }) };
+    ghost invariant = { λ r. IsRegion (record { map = r.map; ids = r.ids.items; layouts = r.layouts.items; words = r.words.items; width = r.width; opened = r.opened; top = r.top }) };
 }
 
 /// The quanta of a block of so many words, where a quantum has so many. O(1).
@@ -71,6 +72,16 @@ fn write_new(words: &mut Vec<Word>, from: usize, layout: &Layout)
     for i in 0..len {
         words[from + i as usize] = new_word(layout.class_at(i));
     }
+}
+
+/// What stands among the ids where no block begins.
+fn no_id() -> BlockId
+    ensures { result ≡ no_id }
+{
+    let Some(thread) = ThreadNo::new(1) else {
+        unreachable!()
+    };
+    BlockId { thread, serial: 0 }
 }
 
 /// The product, where it fits.
@@ -125,6 +136,7 @@ impl Region {
     {
         Region {
             map: AdminMap::new(alloc, size),
+            ids: Vec::new(alloc),
             layouts: Vec::new(alloc),
             words: Vec::new(alloc),
             width,
@@ -135,10 +147,10 @@ impl Region {
 
     /// Puts a new block into the first hole, and says its subzone and its first quantum there. It takes no memory.
     /// O(quanta and words, and what the search for the hole passes over).
-    pub fn place(&mut self, layout: Layout) -> (usize, usize)
+    pub fn place(&mut self, id: BlockId, layout: Layout) -> (usize, usize)
         requires few { quanta_in self.old.width (len_of layout) ≤ 32 }
         requires room { quanta_in self.old.width (len_of layout) + 31 ≤ room_of self.old }
-        ensures placed { IsPlaced self.old self.new layout (result.0, result.1) (result.0 * self.old.map.size + result.1) }
+        ensures placed { IsPlaced self.old self.new id layout (result.0, result.1) (result.0 * self.old.map.size + result.1) }
         ensures room { room_of self.old ≤ room_of self.new + quanta_in self.old.width (len_of layout) }
     {
         let quanta = quanta_in(self.width, layout.len() as usize);
@@ -149,6 +161,7 @@ impl Region {
         self.map.set(at, NEW);
         self.map.fill(at + 1, at + quanta, FURTHER);
         write_new(&mut self.words, at * self.width, &layout);
+        self.ids[at] = id;
         put(&mut self.layouts, at, Some(layout));
         self.opened = self.opened.max(subzone + 1);
         self.top = self.top.max(at + quanta);
@@ -177,6 +190,9 @@ impl Region {
         let Some(words) = product(size, self.width) else {
             return Err(NoMemory);
         };
+        if self.ids.reserve(size).is_err() {
+            return Err(NoMemory);
+        }
         if self.layouts.reserve(size).is_err() {
             return Err(NoMemory);
         }
@@ -186,6 +202,7 @@ impl Region {
         let Ok(()) = self.map.grow() else {
             return Err(NoMemory);
         };
+        append(&mut self.ids, no_id(), size);
         append_none(&mut self.layouts, size);
         append(&mut self.words, Word::Null, words);
         Ok(())
@@ -224,6 +241,14 @@ impl Region {
         }
     }
 
+    /// The id of the block that begins at a quantum. O(1).
+    pub fn id(&self, at: usize) -> BlockId
+        requires { HasBlock self.now at }
+        ensures { result ≡ get_or self.now.ids at no_id }
+    {
+        self.ids[at]
+    }
+
     /// A word of the block that begins at a quantum. O(1).
     pub fn word(&self, at: usize, i: usize) -> Word
         requires { HasWord self.now at i }
@@ -256,6 +281,20 @@ impl Region {
         ensures { self.new ≡ with_byte self.old at byte }
     {
         self.map.set(at, byte);
+    }
+
+    /// Makes the shade of each block white. O(quanta).
+    pub fn whiten(&mut self)
+        ensures { IsRenotedRegion whitened self.old self.new }
+    {
+        self.map.whiten();
+    }
+
+    /// Makes each block one older, up to 3. O(quanta).
+    pub fn age(&mut self)
+        ensures { IsRenotedRegion aged self.old self.new }
+    {
+        self.map.age();
     }
 }
 

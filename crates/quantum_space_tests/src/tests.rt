@@ -1,4 +1,4 @@
-use az_base::Word;
+use az_base::{BlockId, ThreadNo, Word};
 use block_layouts::Layout;
 use quantum_space::{Admin, Region, Shade};
 use std::alloc::Global;
@@ -14,8 +14,15 @@ fn medium(alloc: Global) -> Region {
     Region::new(alloc, 256, 128)
 }
 
-/// Where a block of so many words comes to lie.
+/// The id of the first thread's block with this serial.
+fn id(serial: u32) -> Option<BlockId> {
+    let thread = ThreadNo::new(1)?;
+    Some(BlockId { thread, serial })
+}
+
+/// Where a block of so many words comes to lie. Its serial is that number.
 fn place(region: &mut Region, words: u32) -> Option<(usize, usize)> {
+    let id = id(words)?;
     let Ok(layout) = Layout::scanned(words) else {
         return None;
     };
@@ -24,7 +31,7 @@ fn place(region: &mut Region, words: u32) -> Option<(usize, usize)> {
         return None;
     }
     match region.reserve(quanta) {
-        Ok(()) => Some(region.place(layout)),
+        Ok(()) => Some(region.place(id, layout)),
         Err(_) => None,
     }
 }
@@ -157,5 +164,47 @@ fn admin_bytes(rt: HostRuntime) {
         && grey.to_byte() == 0xc5
         && Admin::from_byte(0xee) == old
         && Admin::from_byte(0xc5) == grey;
+    assert!(rt; right);
+}
+
+/// Notes a byte of the block at a quantum of the first subzone, where there is one.
+fn note(region: &mut Region, quantum: usize, admin: Admin) {
+    if admin.age <= 3 && region.begins_at(quantum) {
+        let byte = admin.to_byte();
+        region.set_byte(quantum, byte);
+    }
+}
+
+#[test]
+fn walks_over_all_bytes(rt: HostRuntime) {
+    let mut region = small(rt.alloc());
+    let noted = Admin {
+        shade: Shade::Black,
+        age: 2,
+        card: true,
+        finalised: true,
+    };
+    let placed = are_placed(&mut region, &[(4, 0), (2, 2)]);
+    note(&mut region, 0, noted);
+    let before = begins(&region, &[0xea, 0x83, 0x80, 0]);
+    region.whiten();
+    let white = begins(&region, &[0xe8, 0x83, 0x80, 0]);
+    region.age();
+    let older = begins(&region, &[0xec, 0x83, 0x84, 0]);
+    region.age();
+    assert!(rt; placed && before && white && older && begins(&region, &[0xec, 0x83, 0x88, 0]));
+}
+
+#[test]
+fn ids(rt: HostRuntime) {
+    let mut region = small(rt.alloc());
+    let right = are_placed(&mut region, &[(4, 0), (2, 2)])
+        && region.begins_at(2)
+        && Some(region.id(2)) == id(2)
+        && !region.begins_at(1)
+        && free(&mut region, 0)
+        && are_placed(&mut region, &[(3, 0)])
+        && region.begins_at(0)
+        && Some(region.id(0)) == id(3);
     assert!(rt; right);
 }

@@ -1,5 +1,5 @@
-use Rattle.std.proofs.Common.{◌∙◌, arith, refl}
-use Rattle.block_space.proofs.Keeping.{roomier_space, roomier_space_more}
+use Rattle.std.proofs.Common.{arith, refl}
+use Rattle.block_space.proofs.Keeping.{roomier_space}
 use Rattle.block_space.proofs.space.Space.cover.Goals as goal
 
 pub loop-grown-init : goal.loop-grown-init

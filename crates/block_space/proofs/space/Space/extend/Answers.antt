@@ -1,7 +1,7 @@
 use Rattle.std.proofs.Common.{◌+◌, ◌<◌, ◌^◌, sym, subst, ℕ, List}
 use Rattle.block_space.specs.declared.table.Kind.{Kind}
-use Rattle.block_space.specs.Spaces.{Space', IsCovered, IsSpace, kind_quanta, list_quanta, region}
-use Rattle.block_space.proofs.Keeping.{more_come}
+use Rattle.block_space.specs.Spaces.{Space', IsCovered, IsRoomierSpace, IsSpace, kind_quanta, list_quanta, region}
+use Rattle.block_space.proofs.Keeping.{more_come, roomier_spare}
 use Rattle.block_space.proofs.space.Space.extend.Goals.{in-Ok, in-Err}
 use Rattle.block_space.proofs.space.Space.extend.Goals as goal
 
@@ -14,3 +14,9 @@ invariant_of-self c =
       | in-Ok w ↦ more_come _ c.args.lengths.now c.extend.new.self c.self.invariant c.requires.lengths few w.in-Ok.ensures.ok covered
       | in-Err w ↦ subst (λ (x : List ℕ). IsSpace (record { small = i.small; medium = i.medium; table = i.table; spare = x; used = i.used })) (sym w.in-Err.ensures.err) c.self.invariant
     ]
+
+pub returns-clause-same : goal.returns-clause-same
+returns-clause-same c =
+    let i = c.self.inside in
+    let s : Space' = record { small = i.small; medium = i.medium; table = i.table; spare = i.spare; used = i.used } in
+    subst (λ (v : Space'). IsRoomierSpace v (record { small = i.small; medium = i.medium; table = i.table; spare = c.extend.new.self; used = i.used })) c.self.view_is (roomier_spare s c.extend.new.self)

@@ -1,9 +1,9 @@
-use Rattle.std.proofs.Common.{◌≡◌, ◌+◌, ◌-◌, ◌≤◌, ◌∙◌, ℕ, Option, Some, None, IfSome, arith, ap, sym, subst, refl, get_or}
+use Rattle.std.proofs.Common.{◌≡◌, ◌-◌, Option, None, IfSome, arith, sym, subst, refl, get_or}
 use Rattle.block_layouts.specs.declared.layout.Layout.{Layout}
 use Rattle.block_layouts.specs.Layouts.{len_of, quanta}
-use Rattle.quantum_space.specs.Regions.{Region', HasBlock, IsFreed}
+use Rattle.quantum_space.specs.Regions.{HasBlock, IsFreed}
 use Rattle.block_space.specs.declared.table.Kind.TheVariants as kind
-use Rattle.block_space.specs.Spaces.{Space', IsFreedAt, IsSpace, spot_at}
+use Rattle.block_space.specs.Spaces.{Space', IsFreedAt, spot_at}
 use Rattle.block_space.proofs.Keeping.{kept, kind_freed, stored_block}
 use Rattle.block_space.proofs.Sums.{stored_quanta}
 use Rattle.block_space.proofs.space.Space.free_small.Goals as goal

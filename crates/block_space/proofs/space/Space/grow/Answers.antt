@@ -1,7 +1,6 @@
-use Rattle.std.proofs.Common.{◌≡◌, ℕ, arith, ap, List}
+use Rattle.std.proofs.Common.{arith, ap}
 use Rattle.block_space.specs.declared.table.Kind.TheVariants as kind
 use Rattle.block_space.specs.Tables.{Table', numbers}
-use Rattle.block_space.specs.Spaces.{Space'}
 use Rattle.block_space.proofs.Keeping.{kept, kind_grown}
 use Rattle.block_space.proofs.space.Space.grow.Goals as goal
 

@@ -2,4 +2,4 @@ use Rattle.block_space.proofs.Mapping.{block_more}
 use Rattle.block_space.proofs.space.Space.place.Goals as goal
 
 pub returns-clause-more : goal.returns-clause-more
-returns-clause-more c = block_more _ _ c.is_sound.ensures _ _ c.place_first.ensures
+returns-clause-more c = block_more _ _ c.is_sound.ensures _ _ _ c.place_first.ensures

@@ -1,9 +1,8 @@
-use Rattle.std.proofs.Common.{◌≡◌, ◌+◌, ◌≤◌, ℕ, arith, ap, sym, subst, List, Some, slice_get, drop, ◌∙◌}
-use Rattle.block_layouts.specs.Layouts.{len_of, quanta}
+use Rattle.std.proofs.Common.{◌≡◌, ◌≤◌, arith, ap, sym, subst, Some, slice_get, ◌∙◌}
+use Rattle.block_layouts.specs.Layouts.{len_of}
 use Rattle.quantum_space.specs.Regions.{quanta_in}
-use Rattle.block_space.specs.declared.table.Kind.{Kind}
 use Rattle.block_space.specs.declared.table.Kind.TheVariants as kind
-use Rattle.block_space.specs.Spaces.{Space', IsSpace, kind_of, altered, width_of}
+use Rattle.block_space.specs.Spaces.{Space', kind_of}
 use Rattle.block_space.proofs.Keeping.{first_room, placed_kept}
 use Rattle.block_space.proofs.Sums.{few_quanta, first_list}
 use Rattle.block_space.proofs.space.Space.place_first.Goals as goal
@@ -29,7 +28,7 @@ place_in-requires-clause-size c = omega (arith, c.self.invariant.size kind.Small
 pub invariant_of-self : goal.invariant_of-self
 invariant_of-self c =
     let first : slice_get c.self.inside.spare 0 ≡ Some (len_of c.args.layout) = subst (λ (v : Space'). slice_get v.spare 0 ≡ Some (len_of c.args.layout)) (sym c.self.view_is) c.requires in
-    placed_kept _ kind.Small c.args.layout c.place_in.new.region c.place_in.new.table c.place_in.result c.take_first.new.self c.quanta.result c.self.invariant (c.in-Small.ensures ∙ ap kind_of c.len.ensures.value) first
+    placed_kept _ kind.Small c.args.id c.args.layout c.place_in.new.region c.place_in.new.table c.place_in.result c.take_first.new.self c.quanta.result c.self.invariant (c.in-Small.ensures ∙ ap kind_of c.len.ensures.value) first
     c.place_in.ensures.placed c.place_in.ensures.room c.take_first.ensures c.quanta.ensures.value
 
 pub place_in-requires-in-Medium-clause-few : goal.place_in-requires-in-Medium-clause-few
@@ -48,5 +47,5 @@ place_in-requires-in-Medium-clause-size c = omega (arith, c.self.invariant.size 
 pub invariant_of-self-in-Medium : goal.invariant_of-self-in-Medium
 invariant_of-self-in-Medium c =
     let first : slice_get c.self.inside.spare 0 ≡ Some (len_of c.args.layout) = subst (λ (v : Space'). slice_get v.spare 0 ≡ Some (len_of c.args.layout)) (sym c.self.view_is) c.requires in
-    placed_kept _ kind.Medium c.args.layout c.place_in-in-Medium.new.region c.place_in-in-Medium.new.table c.place_in-in-Medium.result c.take_first.new.self c.quanta.result c.self.invariant (c.in-Medium.ensures ∙ ap kind_of c.len.ensures.value) first
+    placed_kept _ kind.Medium c.args.id c.args.layout c.place_in-in-Medium.new.region c.place_in-in-Medium.new.table c.place_in-in-Medium.result c.take_first.new.self c.quanta.result c.self.invariant (c.in-Medium.ensures ∙ ap kind_of c.len.ensures.value) first
     c.place_in-in-Medium.ensures.placed c.place_in-in-Medium.ensures.room c.take_first.ensures c.quanta.ensures.value

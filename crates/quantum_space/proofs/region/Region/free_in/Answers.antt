@@ -30,6 +30,6 @@ invariant_of-self c =
     let stored : get_or c.deref.result.now (c.args.subzone * c.size.result + c.args.quantum) None ≡ Some b.0 =
     ap (λ (xs : List (Option Layout)). get_or xs (c.args.subzone * c.size.result + c.args.quantum) None) c.deref.ensures.value ∙ ap (λ n. get_or i.layouts.items n None) at ∙ b.1 in
     let q : c.quanta_at-quanta.result ≡ quanta_in i.width (len_of b.0) = subst (λ (o : Option Layout). IfSome o (λ l. c.quanta_at-quanta.result ≡ quanta_in i.width (len_of l))) stored c.quanta_at-quanta.ensures in
-    same_region _ c.clear.new.self _ c.put.new.layouts.items _ i.width _ i.opened _ i.top (changed_map i.map c.clear.new.self _ _ c.clear.ensures.changed) (c.put.ensures ∙ ap (λ n. set i.layouts.items n None) at) refl refl
+    same_region _ c.clear.new.self _ i.ids.items _ c.put.new.layouts.items _ i.width _ i.opened _ i.top (changed_map i.map c.clear.new.self _ _ c.clear.ensures.changed) refl (c.put.ensures ∙ ap (λ n. set i.layouts.items n None) at) refl refl
     (region_freed _ c.self.invariant b.0 k c.clear.new.self.bytes b.1 c.clear.ensures.changed.count
     (subst (λ n. AllAre c.clear.new.self.bytes k (k + n) 0) q c.clear.ensures.inside) (subst (λ n. SameOutside i.map.bytes c.clear.new.self.bytes k (k + n)) q c.clear.ensures.changed.outside))

@@ -1,4 +1,4 @@
-use Rattle.std.proofs.Common.{◌≡◌, ◌⊎◌, ◌+◌, ◌*◌, ◌<◌, ◌≤◌, max, sym, ap, subst, arith, refl, ◌∙◌}
+use Rattle.std.proofs.Common.{◌≡◌, ◌⊎◌, ◌+◌, ◌*◌, ◌<◌, ◌≤◌, max, sym, ap, subst, arith, refl, set, ◌∙◌}
 use Rattle.block_layouts.specs.Layouts.{len_of}
 use Rattle.quantum_space.specs.AdminMaps.{AdminMap', AllAre, IsFirstOf, SameOutside}
 use Rattle.quantum_space.specs.Regions.{Region', IsPlaced, quanta_in, room_of, further_byte}
@@ -46,8 +46,8 @@ invariant_of-self c =
     let v : Written i.map c.fill.new.self k (k + c.quanta_in-quanta.result) =
     written i.map c.find.new.self c.set.new.self c.fill.new.self k (k + c.quanta_in-quanta.result) c.find.ensures.same c.set.ensures c.fill.ensures.changed c.fill.ensures.inside
     (omega (arith, inside, some_quanta i.width (len_of l))) (omega (arith, nq, some_quanta i.width (len_of l))) in
-    same_region _ _ _ _ _ i.width _ c.max-self-inside.result _ c.max-self-inside-2.result v.is c.put.ensures c.max-self-inside.ensures (c.max-self-inside-2.ensures ∙ ap (λ n. max i.top (k + n)) nq)
-    (region_placed _ c.self.invariant l (c.in-Some.subzone, c.in-Some.quantum) k c.fill.new.self.bytes c.write_new.new.words.items f at few v.count c.write_new.ensures.length v.new
+    same_region _ _ _ _ _ _ _ i.width _ c.max-self-inside.result _ c.max-self-inside-2.result v.is refl c.put.ensures c.max-self-inside.ensures (c.max-self-inside-2.ensures ∙ ap (λ n. max i.top (k + n)) nq)
+    (region_placed _ c.self.invariant c.args.id l (c.in-Some.subzone, c.in-Some.quantum) k c.fill.new.self.bytes c.write_new.new.words.items f at few v.count c.write_new.ensures.length v.new
     (subst (λ n. AllAre c.fill.new.self.bytes (k + 1) (k + n) further_byte) nq v.further) (subst (λ n. SameOutside i.map.bytes c.fill.new.self.bytes k (k + n)) nq v.same))
 
 pub returns-clause-placed : goal.returns-clause-placed
@@ -64,19 +64,20 @@ returns-clause-placed c =
     let v : Written i.map c.fill.new.self k (k + c.quanta_in-quanta.result) =
     written i.map c.find.new.self c.set.new.self c.fill.new.self k (k + c.quanta_in-quanta.result) c.find.ensures.same c.set.ensures c.fill.ensures.changed c.fill.ensures.inside
     (omega (arith, inside, some_quanta i.width (len_of l))) (omega (arith, nq, some_quanta i.width (len_of l))) in
-    let r : Region' = record { map = i.map; layouts = i.layouts.items; words = i.words.items; width = i.width; opened = i.opened; top = i.top } in
-    let new : Region' = record { map = c.fill.new.self; layouts = c.put.new.layouts.items; words = c.write_new.new.words.items; width = i.width; opened = c.max-self-inside.result; top = c.max-self-inside-2.result } in
+    let r : Region' = record { map = i.map; ids = i.ids.items; layouts = i.layouts.items; words = i.words.items; width = i.width; opened = i.opened; top = i.top } in
+    let new : Region' = record { map = c.fill.new.self; ids = set i.ids.items k c.args.id; layouts = c.put.new.layouts.items; words = c.write_new.new.words.items; width = i.width; opened = c.max-self-inside.result; top = c.max-self-inside-2.result } in
     let further : AllAre c.fill.new.self.bytes (k + 1) (k + quanta_in i.width (len_of l)) further_byte = subst (λ n. AllAre c.fill.new.self.bytes (k + 1) (k + n) further_byte) nq v.further in
     let same : SameOutside i.map.bytes c.fill.new.self.bytes k (k + quanta_in i.width (len_of l)) = subst (λ n. SameOutside i.map.bytes c.fill.new.self.bytes k (k + n)) nq v.same in
-    let p : IsPlaced r new l (c.in-Some.subzone, c.in-Some.quantum) k = record {
+    let p : IsPlaced r new c.args.id l (c.in-Some.subzone, c.in-Some.quantum) k = record {
       hole = f;
       place = at;
       inside = omega (arith, inside, c.self.invariant.layouts, some_quanta i.width (len_of l));
       fresh = hole_fresh r (quanta_in i.width (len_of l)) (c.in-Some.subzone, c.in-Some.quantum) k c.self.invariant (some_quanta i.width (len_of l)) f at;
       opens = subst (λ o. ((c.in-Some.subzone < i.opened) × (o ≡ i.opened)) ⊎ ((c.in-Some.subzone ≡ i.opened) × (c.in-Some.quantum ≡ 0) × (o ≡ i.opened + 1))) (sym c.max-self-inside.ensures)
-          (opens_where r c.self.invariant l (c.in-Some.subzone, c.in-Some.quantum) k c.fill.new.self.bytes c.write_new.new.words.items f at few v.count c.write_new.ensures.length v.new further same);
+          (opens_where r c.self.invariant c.args.id l (c.in-Some.subzone, c.in-Some.quantum) k c.fill.new.self.bytes c.write_new.new.words.items f at few v.count c.write_new.ensures.length v.new further same);
       map = v.is;
       width = refl;
+      ids = refl;
       layouts = c.put.ensures;
       first = v.new;
       further = further;
@@ -84,8 +85,8 @@ returns-clause-placed c =
       words = c.write_new.ensures.new;
       others = c.write_new.ensures.others;
     } in
-    subst (λ (x : Region'). IsPlaced x new l (c.in-Some.subzone, c.in-Some.quantum) (c.in-Some.subzone * x.map.size + c.in-Some.quantum)) c.self.view_is
-    (subst (λ x. IsPlaced r new l (c.in-Some.subzone, c.in-Some.quantum) x) at p)
+    subst (λ (x : Region'). IsPlaced x new c.args.id l (c.in-Some.subzone, c.in-Some.quantum) (c.in-Some.subzone * x.map.size + c.in-Some.quantum)) c.self.view_is
+    (subst (λ x. IsPlaced r new c.args.id l (c.in-Some.subzone, c.in-Some.quantum) x) at p)
 
 pub returns-clause-room : goal.returns-clause-room
 returns-clause-room c =
@@ -101,9 +102,9 @@ returns-clause-room c =
     let v : Written i.map c.fill.new.self k (k + c.quanta_in-quanta.result) =
     written i.map c.find.new.self c.set.new.self c.fill.new.self k (k + c.quanta_in-quanta.result) c.find.ensures.same c.set.ensures c.fill.ensures.changed c.fill.ensures.inside
     (omega (arith, inside, some_quanta i.width (len_of l))) (omega (arith, nq, some_quanta i.width (len_of l))) in
-    let r : Region' = record { map = i.map; layouts = i.layouts.items; words = i.words.items; width = i.width; opened = i.opened; top = i.top } in
+    let r : Region' = record { map = i.map; ids = i.ids.items; layouts = i.layouts.items; words = i.words.items; width = i.width; opened = i.opened; top = i.top } in
     let further : AllAre c.fill.new.self.bytes (k + 1) (k + quanta_in i.width (len_of l)) further_byte = subst (λ n. AllAre c.fill.new.self.bytes (k + 1) (k + n) further_byte) nq v.further in
     let same : SameOutside i.map.bytes c.fill.new.self.bytes k (k + quanta_in i.width (len_of l)) = subst (λ n. SameOutside i.map.bytes c.fill.new.self.bytes k (k + n)) nq v.same in
-    let left = room_after r c.self.invariant l (c.in-Some.subzone, c.in-Some.quantum) k c.fill.new.self.bytes c.write_new.new.words.items f at few v.count c.write_new.ensures.length v.new further same in
-    subst (λ (x : Region'). room_of x ≤ room_of (record { map = c.fill.new.self; layouts = c.put.new.layouts.items; words = c.write_new.new.words.items; width = i.width; opened = c.max-self-inside.result; top = c.max-self-inside-2.result }) + quanta_in x.width (len_of l)) c.self.view_is
+    let left = room_after r c.self.invariant c.args.id l (c.in-Some.subzone, c.in-Some.quantum) k c.fill.new.self.bytes c.write_new.new.words.items f at few v.count c.write_new.ensures.length v.new further same in
+    subst (λ (x : Region'). room_of x ≤ room_of (record { map = c.fill.new.self; ids = set i.ids.items k c.args.id; layouts = c.put.new.layouts.items; words = c.write_new.new.words.items; width = i.width; opened = c.max-self-inside.result; top = c.max-self-inside-2.result }) + quanta_in x.width (len_of l)) c.self.view_is
     (same_room (room_of r) (quanta_in i.width (len_of l)) _ c.fill.new.self _ c.max-self-inside.result _ c.max-self-inside-2.result v.is c.max-self-inside.ensures (c.max-self-inside-2.ensures ∙ ap (λ n. max i.top (k + n)) nq) left)
