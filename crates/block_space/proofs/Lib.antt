@@ -4,3 +4,4 @@ pub mod Opening
 pub mod Still
 pub mod Sums
 pub mod Noting
+pub mod Freeing

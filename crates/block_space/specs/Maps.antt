@@ -1,5 +1,5 @@
 -- A space as a map from places to blocks
-use Rattle.std.specs.Prelude.{◌≡◌, ◌≢◌, ℕ, ◌<◌, ◌⊎◌, Some, None}
+use Rattle.std.specs.Prelude.{◌≡◌, ◌≢◌, ℕ, ◌<◌, ◌⊎◌, ◌∷◌, [], List, Some, None, MatchOption, Contains}
 use Rattle.az_base.specs.declared.block_id.BlockId.{BlockId}
 use Rattle.block_layouts.specs.declared.layout.Layout.{Layout}
 use Rattle.block_layouts.specs.Layouts.{class_at, len_of}
@@ -8,7 +8,7 @@ use Rattle.quantum_space.specs.declared.place.Place.{Place}
 use Rattle.quantum_space.specs.Regions.{IsRegion, new_byte, new_word}
 use Rattle.block_space.specs.declared.table.Kind.{Kind}
 use Rattle.block_space.specs.Tables.{IsTable}
-use Rattle.block_space.specs.Spaces.{Space', IsSpace, admin_at, byte_at, id_at, layout_at, region, word_at}
+use Rattle.block_space.specs.Spaces.{Space', IsSpace, IsTakenOff, admin_at, byte_at, id_at, layout_at, region, word_at}
 
 -- what holds of each space and of its parts
 pub record IsSound (s : Space') : Type 0 where
@@ -45,3 +45,18 @@ pub record AreNoted (f : Admin → Admin) (s new : Space') : Type 0 where
   pub ids : (p : Place) → id_at new p ≡ id_at s p
   pub words : (p : Place) (i : ℕ) → word_at new p i ≡ word_at s p i
   pub admins : (p : Place) (l : Layout) → layout_at s p ≡ Some l → admin_at new p ≡ f (admin_at s p)
+
+-- the block at a place has gone, if one began there
+abbrev pub MayBeTakenOff : Space' → Place → Space' → Type 0
+MayBeTakenOff s p new = MatchOption (layout_at s p) (new ≡ s) (λ _. IsTakenOff s new p)
+
+-- the blocks at these places have gone, one after another
+abbrev pub AreTakenOff : Space' → List Place → Space' → Type 0
+AreTakenOff s [] new = new ≡ s
+AreTakenOff s (p ∷ ps) new = (mid : Space') × MayBeTakenOff s p mid × AreTakenOff mid ps new
+
+-- the blocks at these places have gone, and all others are as they were
+pub record HasBlocksLess (s new : Space') (ps : List Place) : Type 0 where
+  pub gone : (p : Place) → Contains ps p → layout_at new p ≡ None
+  pub others : (q : Place) (o : Layout) → ¬ Contains ps q → layout_at s q ≡ Some o → IsSameBlock s new q o
+  pub only : (q : Place) (o : Layout) → layout_at new q ≡ Some o → layout_at s q ≡ Some o

@@ -8,7 +8,7 @@ ghost use Rattle.quantum_space.specs.declared.admin.Admin.{Admin as AnAdmin};
 ghost use Rattle.quantum_space.specs.declared.shade.Shade.TheVariants as shade;
 ghost use Rattle.block_space.specs.Tables.{Table', numbers, opened_with};
 ghost use Rattle.block_space.specs.Spaces.{Space', kind_of, size_of, width_of, region, spot_at, spot_in, spot_of, layout_at, word_at, byte_at, admin_at, id_at, HasBlockAt, HasWordAt, IsRoomierSpace, IsFreedAt, IsTakenOff, IsPlacedAt, IsPlacedIn, IsRenotedSpace, IsSubzoneMap, AreLengths, IsCovered, block_quanta, kind_length, kind_quanta, list_quanta, with_admin, with_word_at, with_card, with_finalised, with_spare};
-ghost use Rattle.block_space.specs.Maps.{AreNoted, HasBlockLess, HasBlockMore, IsSound};
+ghost use Rattle.block_space.specs.Maps.{AreNoted, AreTakenOff, HasBlockLess, HasBlockMore, HasBlocksLess, MayBeTakenOff, IsSound};
 ghost use Rattle.quantum_space.specs.declared.place.Place.{Place as APlace};
 ghost use Rattle.block_space.specs.declared.table.Kind.{Kind as AKind};
 
@@ -590,6 +590,27 @@ impl Space {
     {
         self.is_sound();
         self.free_at(p);
+    }
+
+    /// Frees the blocks at these places, and passes over a place at which none begins. O(places, and quanta of the
+    /// blocks).
+    pub fn free_all(&mut self, places: &[Place])
+        ensures freed { AreTakenOff self.old places.now self.new }
+        ensures less { HasBlocksLess self.old self.new places.now }
+    {
+        for place in places {
+            self.free_there(*place);
+        }
+    }
+
+    /// Frees the block at a place, if one begins there.
+    fn free_there(&mut self, p: Place)
+        ensures freed { MayBeTakenOff self.old p self.new }
+        ensures less { MatchOption (layout_at self.old p) (self.new ≡ self.old) (λ _. HasBlockLess self.old self.new p) }
+    {
+        if self.has_block(p) {
+            self.free(p);
+        }
     }
 
     fn free_at(&mut self, p: Place)

@@ -261,6 +261,30 @@ fn all_blocks_are_whitened_and_aged(rt: HostRuntime) {
     assert!(rt; placed && noted && white && old && begins(&space, 0, 4096, &[0x88, 0x83, 0]));
 }
 
+/// A place.
+fn at(subzone: u32, quantum: u32) -> Place {
+    Place { subzone, quantum }
+}
+
+#[test]
+fn a_list_of_blocks_is_freed(rt: HostRuntime) {
+    let mut space = Space::new(rt.alloc());
+    let lengths = [2, 4, 65, 200, 2];
+    let placed = are_placed(
+        &mut space,
+        &lengths,
+        &[(0, 0), (0, 1), (1, 0), (1, 1), (0, 3)],
+    );
+    space.free_all(&[at(1, 1), at(0, 0), at(0, 2), at(7, 0), at(0, 3), at(0, 0)]);
+    assert!(rt;
+        placed
+            && begins(&space, 0, 4096, &[0, 0x80, 0x83, 0, 0])
+            && begins(&space, 1, 256, &[0x80, 0, 0, 0])
+            && space.used() == 66
+            && have_serials(&space, &[(0, 1, 4), (1, 0, 65)])
+    );
+}
+
 #[test]
 fn nothing_is_to_come_after_unreserve(rt: HostRuntime) {
     let mut space = Space::new(rt.alloc());
