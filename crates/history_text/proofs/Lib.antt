@@ -5,3 +5,9 @@ pub mod ReadAgain
 pub mod RepliesAgain
 pub mod LineLaws
 pub mod Found
+pub mod Cutting
+pub mod Places
+pub mod Drafting
+pub mod Standing
+pub mod OneText
+pub mod Written

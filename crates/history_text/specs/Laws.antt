@@ -1,8 +1,24 @@
--- What the text of a line says
-use Rattle.std.specs.Prelude.{◌≡◌, ℕ, List}
+-- What the text of a line, and of a history, says
+use Rattle.std.specs.Prelude.{◌≡◌, ℕ, List, map}
+use Rattle.az_base.specs.declared.options.Options.{Options}
+use Rattle.zone_model.specs.declared.entry.Entry.{Entry}
+use Rattle.zone_model.specs.declared.entry.Stats.{Stats}
+use Rattle.zone_model.specs.Bare.{bare_entry}
 use Rattle.history_text.specs.declared.lines.HistoryLine.{HistoryLine}
 use Rattle.history_text.specs.Lines.{IsLine, bare_line}
+use Rattle.history_text.specs.Texts.{IsText}
 
 -- two lines of the same bytes are the same, but for the room of their lists
 abbrev pub LinesHaveOneReading : Type 0
 LinesHaveOneReading = (bytes : List ℕ) (g h : HistoryLine) → IsLine bytes g → IsLine bytes h → bare_line g ≡ bare_line h
+
+-- what two histories have alike whose entries differ in the room of their lists alone
+pub record AreAlike (o p : Options) (g h : List Entry) (s t : Stats) : Type 0 where
+  pub options : o ≡ p
+  pub entries : map bare_entry g ≡ map bare_entry h
+  pub stats : s ≡ t
+
+-- two histories of the same text are the same, but for the room of their lists
+abbrev pub TextsHaveOneReading : Type 0
+TextsHaveOneReading =
+    (bytes : List ℕ) (o p : Options) (g h : List Entry) (s t : Stats) → IsText bytes o g s → IsText bytes p h t → AreAlike o p g h s t

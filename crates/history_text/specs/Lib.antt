@@ -4,4 +4,7 @@ pub mod Names
 pub mod Ranges
 pub mod Lines
 pub mod Reading
+pub mod Texts
+pub mod Drafts
+pub mod Answers
 pub mod Laws

@@ -1,5 +1,5 @@
 //! What the text of a line says.
-ghost use Rattle.history_text.specs.Laws.{LinesHaveOneReading};
+ghost use Rattle.history_text.specs.Laws.{LinesHaveOneReading, TextsHaveOneReading};
 
 use az_words::numbers_are_read;
 use call_words::arguments_are_read;
@@ -10,4 +10,12 @@ pub fn lines_have_one_reading()
 {
     numbers_are_read();
     arguments_are_read();
+}
+
+/// Bytes are the text of one history at most, but for the room that lists of ids have: its options, its entries and its
+/// statistics.
+pub fn texts_have_one_reading()
+    ensures { TextsHaveOneReading }
+{
+    lines_have_one_reading();
 }
