@@ -17,7 +17,7 @@ use Rattle.zone_commands.specs.declared.status.Stop.{Stop}
 use Rattle.zone_commands.specs.declared.status.Stop.TheVariants as stops
 use Rattle.play_core.specs.Playing.{requests_of}
 use Rattle.zone_history.specs.Histories.{IsHistoryOf}
-use Rattle.zone_history.specs.Text.{history_text}
+use Rattle.history_text.specs.Texts.{text_of}
 
 -- the source gave these bytes, and none is left
 pub record GaveAll (old new : Option (List ℕ)) (bytes : List ℕ) : Type 0 where
@@ -31,7 +31,7 @@ pub record IsPlayed (bytes text : List ℕ) : Type 0 where
   pub stats : Stats
   pub parsed : IsScript bytes script
   pub played : IsHistoryOf script.options (requests_of script) history stats
-  pub spelled : text ≡ history_text script.options history stats
+  pub spelled : text ≡ text_of script.options history stats
 
 -- all was read, at most so many bytes, and the text of a history of the script was written
 pub record Played (limit : ℕ) (old new : Option (List ℕ)) (grew : List ℕ → Type 0) : Type 0 where

@@ -8,9 +8,9 @@ use crate::saying::{refusal, say};
 use crate::status::{Status, Stop};
 use az_outside::{Sink, Source, read_all, write_all};
 use heap_script::{parse, scripts_are_read, scripts_are_refused};
+use history_text::write_text;
 use play_core::play;
 use std::alloc::Global;
-use zone_history::write_text;
 
 /// The most bytes of a script.
 pub const LIMIT: usize = 4_194_304;

@@ -1,8 +1,6 @@
-//! Histories: which ones a set of requests has, how they are kept while they grow, and how they are written.
+//! Histories: which ones a set of requests has, and how they are kept while they grow.
 //!
-//! A history is a list of entries, each a thread's call with its reply. Its text has words separated by one space,
-//! numerals without leading zeros, and a line feed at the end of each line: the options that aren't at their default,
-//! one line for each entry, and the statistics of the end.
+//! A history is a list of entries, each a thread's call with its reply.
 //!
 //! # The journal
 //!
@@ -12,10 +10,6 @@
 //! below `owed`. What the cycle then pushes lowers both, and at its end the rest is forgiven.
 #![tactic(auto)]
 
-mod calls;
-mod history;
 mod journal;
-mod replies;
 
-pub use history::write_text;
 pub use journal::Journal;
