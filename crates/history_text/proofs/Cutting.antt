@@ -1,5 +1,5 @@
 -- Lines that end in line feeds are cut apart in one way
-use Rattle.std.proofs.Common.{◌≡◌, ℕ, true, not, List, [], ◌∷◌, ◌++◌, refl, sym, ◌∙◌, subst, append_assoc}
+use Rattle.std.proofs.Common.{◌≡◌, ℕ, ◌<◌, true, not, List, [], ◌∷◌, ◌++◌, length, refl, sym, ◌∙◌, subst, arith, append_assoc}
 use Rattle.std.specs.List.{list_all, AllByRecursion}
 use Rattle.std.proofs.lemmas.Bool.{and_parts}
 use Rattle.az_words.specs.Lines.{is_feed}
@@ -40,3 +40,14 @@ cut_lines (x ∷ xs) (y ∷ ys) after hx hy e =
     let c = cut_one y x (fed ys) (fed xs ++ after) hy.0 hx.0 (sym (fed_first y ys) ∙ e ∙ fed_cons x xs after) in
     let r = cut_lines xs ys after hx.1 hy.1 c.1 in
     (r.0, cc (c.0, r.1), r.2)
+
+-- of two cuts of the same bytes, the longer goes on where the shorter ends
+pub longer_cut : (xs ys : List (List ℕ)) (a b : List ℕ) → AllByRecursion HasNoFeed xs → AllByRecursion HasNoFeed ys → fed xs ++ a ≡ fed ys ++ b → length xs < length ys
+    → (z : List ℕ) × (zs : List (List ℕ)) × (ys ≡ xs ++ z ∷ zs) × (a ≡ z ++ 10 ∷ (fed zs ++ b)) × HasNoFeed z
+longer_cut [] [] a b hx hy e l = absurd (omega arith)
+longer_cut [] (y ∷ ys) a b hx hy e l = (y, ys, refl, e ∙ fed_cons y ys b, hy.0)
+longer_cut (x ∷ xs) [] a b hx hy e l = absurd (omega arith)
+longer_cut (x ∷ xs) (y ∷ ys) a b hx hy e l =
+    let c = cut_one x y (fed xs ++ a) (fed ys ++ b) hx.0 hy.0 (sym (fed_cons x xs a) ∙ e ∙ fed_cons y ys b) in
+    let r = longer_cut xs ys a b hx.1 hy.1 c.1 (omega arith) in
+    (r.0, r.1, cc (c.0, r.2), r.3, r.4)

@@ -41,6 +41,7 @@ has_setting d e s bytes is said later same =
         options = set_valid d.options s is.options said.ranged;
         entries = is.entries;
         spelled = is.spelled;
+        owed = is.owed;
         unset = set_unset d.options s.name s.number unset;
         next = sym (ap (next_place 0) lines ∙ next_append 0 (lines_so_far d) (line.Setting s ∷ []));
       };
@@ -70,8 +71,8 @@ bare_range (reply.Stats s) h = h
 bare_range (reply.Misuse m) h = tt
 
 pub has_entry : (d f : Draft) (e : Entry) (bytes : List ℕ) → IsDraft d → IsLine bytes (line.Entry e) → f.options ≡ d.options
-    → f.journal.entries ≡ d.journal.entries ++ bare_entry e ∷ [] → f.next ≡ 5 → HasLine d f bytes
-has_entry d f e bytes is said options entries next =
+    → f.journal.entries ≡ d.journal.entries ++ bare_entry e ∷ [] → f.journal.owed ≡ d.journal.owed → f.next ≡ 5 → HasLine d f bytes
+has_entry d f e bytes is said options entries owed next =
     let bare = bare_entry e in
     let ranged : IsEntry bare = record { thread = said.ranged.thread; call = said.ranged.call; reply = bare_range e.reply said.ranged.reply } in
     let one : All IsEntry (bare ∷ []) = single IsEntry bare ranged in
@@ -86,6 +87,7 @@ has_entry d f e bytes is said options entries next =
         options = rw options is.options;
         entries = rw entries (All-append IsEntry d.journal.entries (bare ∷ []) is.entries one);
         spelled = rw entries (All-append (λ x. IsSpelled x.call) d.journal.entries (bare ∷ []) is.spelled spelled);
+        owed = owed ∙ is.owed;
         unset = rw next (unset_end f.options);
         next = next ∙ sym (ap (next_place 0) lines ∙ next_append 0 (lines_so_far d) (line.Entry bare ∷ []));
       };

@@ -11,3 +11,4 @@ pub mod Drafting
 pub mod Standing
 pub mod OneText
 pub mod Written
+pub mod OneLine

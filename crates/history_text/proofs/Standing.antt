@@ -315,6 +315,6 @@ empty (x ∷ xs) h = absurd (omega arith)
 
 -- the last line, with nothing after it
 pub whole_text : (d e : Draft) (bytes rest after all : List ℕ) (s : Stats) → IsDraft d → IsEndOf d bytes s → e ≡ d → all ≡ lines_text (lines_so_far d) ++ rest → cut_at 10 rest ≡ Some (bytes, after) → after ≡ []
-    → IsText all e.options e.journal.entries s
+    → IsText all e.options e.journal.entries s × (e.journal.owed ≡ 0)
 whole_text d e bytes rest after all s is end same text cut none =
-    rw same (ends d bytes all s is end (text ∙ ap (λ t. lines_text (lines_so_far d) ++ t) ((cut_is rest bytes after cut).0 ∙ ap (λ t. bytes ++ 10 ∷ t) none)))
+    rw same (ends d bytes all s is end (text ∙ ap (λ t. lines_text (lines_so_far d) ++ t) ((cut_is rest bytes after cut).0 ∙ ap (λ t. bytes ++ 10 ∷ t) none)), is.owed)

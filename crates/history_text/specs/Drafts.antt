@@ -70,6 +70,7 @@ pub record IsDraft (d : Draft) : Type 0 where
   pub options : IsValid d.options
   pub entries : All IsEntry d.journal.entries
   pub spelled : All (λ e. IsSpelled e.call) d.journal.entries
+  pub owed : d.journal.owed ≡ 0
   pub unset : AreUsualFrom d.next d.options
   pub next : d.next ≡ next_place 0 (lines_so_far d)
 

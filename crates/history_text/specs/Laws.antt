@@ -6,7 +6,7 @@ use Rattle.zone_model.specs.declared.entry.Stats.{Stats}
 use Rattle.zone_model.specs.Bare.{bare_entry}
 use Rattle.history_text.specs.declared.lines.HistoryLine.{HistoryLine}
 use Rattle.history_text.specs.Lines.{IsLine, bare_line}
-use Rattle.history_text.specs.Texts.{IsText}
+use Rattle.history_text.specs.Texts.{IsText, IsWrongAt}
 
 -- two lines of the same bytes are the same, but for the room of their lists
 abbrev pub LinesHaveOneReading : Type 0
@@ -22,3 +22,7 @@ pub record AreAlike (o p : Options) (g h : List Entry) (s t : Stats) : Type 0 wh
 abbrev pub TextsHaveOneReading : Type 0
 TextsHaveOneReading =
     (bytes : List ℕ) (o p : Options) (g h : List Entry) (s t : Stats) → IsText bytes o g s → IsText bytes p h t → AreAlike o p g h s t
+
+-- the first line that can't stand is one
+abbrev pub OneLineIsWrong : Type 0
+OneLineIsWrong = (bytes : List ℕ) (m n : ℕ) → IsWrongAt bytes m → IsWrongAt bytes n → m ≡ n

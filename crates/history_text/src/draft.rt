@@ -72,6 +72,7 @@ impl Draft {
     pub fn new(alloc: Global) -> Draft
         ensures options { result.options ≡ usual_options }
         ensures entries { result.journal.entries ≡ [] }
+        ensures owed { result.journal.owed ≡ 0 }
         ensures next { result.next ≡ 0 }
     {
         Draft {
@@ -102,6 +103,7 @@ impl Draft {
     fn push(&mut self, entry: Entry) -> Result<(), ArgumentErr>
         ensures options { self.new.options ≡ self.old.options }
         ensures entries { OnOk result (self.new.journal.entries ≡ self.old.journal.entries ++ bare_entry entry ∷ []) }
+        ensures owed { self.new.journal.owed ≡ self.old.journal.owed }
         ensures next { OnOk result (self.new.next ≡ 5) }
         ensures err { OnErr result (result ≡ Err ArgumentErr.NoMemory) }
     {

@@ -1,5 +1,5 @@
 //! What the text of a line says.
-ghost use Rattle.history_text.specs.Laws.{LinesHaveOneReading, TextsHaveOneReading};
+ghost use Rattle.history_text.specs.Laws.{LinesHaveOneReading, TextsHaveOneReading, OneLineIsWrong};
 
 use az_words::numbers_are_read;
 use call_words::arguments_are_read;
@@ -19,3 +19,8 @@ pub fn texts_have_one_reading()
 {
     lines_have_one_reading();
 }
+
+/// The first line of bytes that can't stand in a text is one.
+pub fn one_line_is_the_first_wrong_one()
+    ensures { OneLineIsWrong }
+{}

@@ -17,7 +17,7 @@ use zone_model::Stats;
 #[derive(Drop)]
 pub struct HistoryText {
     pub options: Options,
-    /// The entries.
+    /// The entries. Nothing of the room is owed.
     pub journal: Journal,
     /// What the last line says of the end.
     pub stats: Stats,

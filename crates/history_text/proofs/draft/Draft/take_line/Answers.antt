@@ -20,7 +20,7 @@ pub returns-in_ok-push-in-Entry : goal.returns-in_ok-push-in-Entry
 returns-in_ok-push-in-Entry c =
     let said = subst (IsLine c.args.bytes.now) c.in-Entry.is c.in_ok-setting.ensures in
     let done = c.in_ok-push-in-Entry.ensures in
-    has_entry c.args.self.now c.push.new.self c.in-Entry.entry c.args.bytes.now c.requires said done.options done.entries done.next
+    has_entry c.args.self.now c.push.new.self c.in-Entry.entry c.args.bytes.now c.requires said done.options done.entries done.owed done.next
 
 pub returns-else-count-entries : goal.returns-else-count-entries
 returns-else-count-entries c =
