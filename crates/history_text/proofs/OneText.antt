@@ -1,5 +1,5 @@
 -- A text says one history
-use Rattle.std.proofs.Common.{◌≡◌, ℕ, Bool, ◌==◌, true, false, List, [], ◌∷◌, ◌++◌, length, map, refl, sym, ap, ◌∙◌, append-nil}
+use Rattle.std.proofs.Common.{◌≡◌, ℕ, Bool, ◌==◌, true, false, List, [], ◌∷◌, ◌++◌, length, map, refl, sym, ap, ◌∙◌, append-nil, Result, Ok, Err}
 use Rattle.std.proofs.lemmas.Bool.{eqb-true}
 use Rattle.std.proofs.lemmas.List.{map-append}
 use Rattle.az_base.specs.declared.options.Options.{Options}
@@ -14,7 +14,11 @@ use Rattle.history_text.specs.declared.lines.HistoryLine.TheVariants as line
 use Rattle.history_text.specs.declared.lines.OptionName.{OptionName}
 use Rattle.history_text.specs.declared.lines.OptionName.TheVariants as option
 use Rattle.history_text.specs.declared.lines.Setting.{Setting}
-use Rattle.history_text.specs.Laws.{LinesHaveOneReading, AreAlike}
+use Rattle.history_text.specs.declared.texts.HistoryText.{HistoryText}
+use Rattle.history_text.specs.declared.texts.TextErr.{TextErr}
+use Rattle.history_text.specs.declared.texts.TextErr.TheVariants as errors
+use Rattle.history_text.specs.Answers.{ReadsText}
+use Rattle.history_text.specs.Laws.{LinesHaveOneReading, TextsHaveOneReading, AreAlike, IsReadAs}
 use Rattle.history_text.specs.Lines.{bare_line, line_text}
 use Rattle.history_text.specs.Texts.{unless_usual, settings_of, setting_lines, entry_lines, lines_of_history, fed, IsText}
 use Rattle.history_text.specs.Drafts.{with_setting}
@@ -179,3 +183,9 @@ one_text laws bytes o p g h s t a b =
     all_cut : (xs ys zs : List (List ℕ)) → ys ≡ xs ++ zs → [] ≡ fed zs → xs ≡ ys
     all_cut xs ys [] e none = sym (e ∙ append-nil xs)
     all_cut xs ys (z ∷ zs) e none = absurd (nothing z zs none)
+
+-- and its text is read as this history
+pub read_back : TextsHaveOneReading → (bytes : List ℕ) (o : Options) (h : List Entry) (s : Stats) (answer : Result HistoryText TextErr) → IsText bytes o h s → ReadsText bytes answer → IsReadAs o h s answer
+read_back laws bytes o h s (Ok t) is reads = laws bytes t.options o t.journal.entries h t.stats s reads.0 is
+read_back laws bytes o h s (Err (errors.Line n)) is reads = reads.none o h s is
+read_back laws bytes o h s (Err errors.NoMemory) is reads = tt

@@ -1,5 +1,5 @@
 //! What the text of a line says.
-ghost use Rattle.history_text.specs.Laws.{LinesHaveOneReading, TextsHaveOneReading, OneLineIsWrong};
+ghost use Rattle.history_text.specs.Laws.{LinesHaveOneReading, TextsHaveOneReading, TextsAreReadBack, OneLineIsWrong};
 
 use az_words::numbers_are_read;
 use call_words::arguments_are_read;
@@ -18,6 +18,13 @@ pub fn texts_have_one_reading()
     ensures { TextsHaveOneReading }
 {
     lines_have_one_reading();
+}
+
+/// The text of a history is read as this history, but for the room that lists of ids have, unless memory runs out.
+pub fn texts_are_read_back()
+    ensures { TextsAreReadBack }
+{
+    texts_have_one_reading();
 }
 
 /// The first line of bytes that can't stand in a text is one.
