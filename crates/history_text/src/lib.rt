@@ -33,7 +33,8 @@ mod texts;
 mod writing;
 
 pub use laws::{
-    lines_have_one_reading, one_line_is_the_first_wrong_one, texts_are_read_back, texts_have_one_reading,
+    lines_have_one_reading, one_line_is_the_first_wrong_one, texts_are_read_back,
+    texts_have_one_reading,
 };
 pub use lines::{HistoryLine, OptionName, Setting, push_end, push_entry, push_line, push_setting};
 pub use read::read_line;
