@@ -1,0 +1,17 @@
+pub mod Shown
+pub mod Needs
+pub mod Making
+pub mod Received
+pub mod Exposed
+pub mod Stored
+pub mod Associations
+pub mod Newborn
+pub mod WeakLocations
+pub mod Cores
+pub mod Told
+pub mod Held
+pub mod Published
+pub mod Ended
+pub mod Stepped
+pub mod Belonging
+pub mod Counted

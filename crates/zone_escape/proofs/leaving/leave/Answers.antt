@@ -1,0 +1,5 @@
+use Rattle.zone_escape.proofs.Ended.{left}
+use Rattle.zone_escape.proofs.leaving.leave.Goals as goal
+
+pub returns-clause-ok : goal.returns-clause-ok
+returns-clause-ok c = left c.args.local.now c.clear.new.self c.args.heap.now c.let_all_go.new.heap c.in_ok-gone.gone c.requires c.in_ok-gone.ensures c.let_all_go.ensures c.clear.ensures.part c.clear.ensures.rest

@@ -1,0 +1,7 @@
+pub mod Cores
+pub mod Publications
+pub mod Making
+pub mod Receiving
+pub mod WeakWords
+pub mod Telling
+pub mod Answers

@@ -1,0 +1,63 @@
+//! What waits is published.
+ghost use Rattle.std.specs.Prelude.{◌≡◌, ◌≤◌, ◌+◌, ◌++◌, [], length, OnOk, OnErr};
+ghost use Rattle.zone_model.specs.History.{Legal};
+ghost use Rattle.zone_escape.specs.Cores.{BelongsTo, IsCore};
+ghost use Rattle.zone_escape.specs.Publications.{Flushed, Untouched};
+
+use crate::telling::tell;
+use crate::zone_core::Core;
+use az_base::NoMemory;
+use local_set::Local;
+use zone_history::Journal;
+
+/// The waiting entries go into the journal, in their order.
+fn push_waiting(local: &mut Local, journal: &mut Journal)
+    requires { journal.old.owed + length local.old.waiting ≤ journal.old.spare }
+    ensures entries { journal.new.entries ≡ journal.old.entries ++ local.old.waiting }
+    ensures room { journal.new.spare + length local.old.waiting ≡ journal.old.spare }
+    ensures owed { journal.new.owed ≡ journal.old.owed }
+    ensures local { local.new ≡ record local.old { waiting = []; spare = local.new.spare } }
+{
+    while let Some(entry) = local.pop_pending() {
+        journal.push_reserved(entry);
+    }
+}
+
+/// Room for the waiting entries, and for `more`.
+fn reserve(local: &Local, journal: &mut Journal, more: u32) -> Result<(), NoMemory>
+    ensures entries { journal.new.entries ≡ journal.old.entries }
+    ensures owed { journal.new.owed ≡ journal.old.owed }
+    ensures room { OnOk result (journal.new.owed + (length local.now.waiting + more) ≤ journal.new.spare) }
+    ensures err { OnErr result (journal.new ≡ journal.old) }
+{
+    let waiting = local.pending().len() as u64;
+    journal.reserve(waiting + u64::from(more))
+}
+
+/// Publishes what waits, and takes room for `more` entries beside. NoMemory leaves all as it was.
+pub(crate) fn publish(local: &mut Local, core: &mut Core, more: u32) -> Result<(), NoMemory>
+    requires { BelongsTo local.old core.old }
+    ensures ok { OnOk result (Flushed local.old local.new core.old core.new) }
+    ensures room { OnOk result (core.new.journal.owed + more ≤ core.new.journal.spare) }
+    ensures err { OnErr result (Untouched local.old local.new core.old core.new) }
+    ensures legal { Legal core.new.heap.options core.new.journal.entries }
+    ensures state { IsCore core.new }
+{
+    reserve(local, &mut core.journal, more)?;
+    tell(local, &mut core.heap);
+    push_waiting(local, &mut core.journal);
+    local.mark_published();
+    Ok(())
+}
+
+/// Publishes what waits. NoMemory leaves all as it was. O(waiting entries, and what changed since the last publication)
+/// expected, and O(journal) where that grows.
+pub fn flush(local: &mut Local, core: &mut Core) -> Result<(), NoMemory>
+    requires { BelongsTo local.old core.old }
+    ensures ok { OnOk result (Flushed local.old local.new core.old core.new) }
+    ensures err { OnErr result (Untouched local.old local.new core.old core.new) }
+    ensures legal { Legal core.new.heap.options core.new.journal.entries }
+    ensures state { IsCore core.new }
+{
+    publish(local, core, 0)
+}
