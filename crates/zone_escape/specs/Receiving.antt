@@ -16,8 +16,8 @@ abbrev pub received : Part → ℕ → Reply → Part
 received p to (reply.Block v) = put_register p to v
 received p to _ = p
 
--- the state is that after the call: the heap has been told it, and still counts what the register held before; the set has its
--- thread's part of the state as soon as the register has what the reply gives
+-- the state is that after the call: the heap is that of the state, but still counts for the thread what the register held before,
+-- and the set has its thread's part of the state as soon as the register has what the reply gives
 pub record Receives (l : LocalSet) (h : Shared) (to : ℕ) (r : Reply) (z : State) : Type 0 where
   pub part : part_of z l.thread ≡ received (part_in l) to r
   pub published : (r : ℕ) → held_in l.published r ≡ held_in l.registers r

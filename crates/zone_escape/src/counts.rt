@@ -36,7 +36,7 @@ pub fn retain(
     Ok(reply)
 }
 
-/// The same of an unescaped block, which has count 0.
+/// Retains an unescaped block, which has count 0: CountFull where no count may be positive; else it escapes first, or ZoneFull.
 fn retain_own(
     alloc: Global,
     local: &mut Local,
