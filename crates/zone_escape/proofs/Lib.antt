@@ -1,4 +1,5 @@
 pub mod Shown
+pub mod Escaped
 pub mod Needs
 pub mod Making
 pub mod Received

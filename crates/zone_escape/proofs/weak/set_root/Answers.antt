@@ -1,20 +1,17 @@
-use Rattle.std.proofs.Common.{◌≡◌, None, cond, refl, sym, ap, subst, ◌∙◌, inl, inr}
+use Rattle.std.proofs.Common.{◌≡◌, None, refl, sym, ap, subst, ◌∙◌, inl, inr}
 use Rattle.az_base.specs.declared.misuse.Misuse.TheVariants as misuse
 use Rattle.az_base.specs.declared.weak_loc.WeakLoc.TheVariants as weak
 use Rattle.zone_model.specs.declared.call.Call.TheVariants as call
 use Rattle.zone_model.specs.declared.call.Loc.TheVariants as loc
 use Rattle.zone_model.specs.declared.entry.Reply.TheVariants as reply
 use Rattle.zone_model.specs.Bare.{bare_reply}
-use Rattle.zone_model.specs.Escape.{EscOf, with_escaped}
+use Rattle.zone_model.specs.Escape.{with_escaped}
 use Rattle.shared_heap.specs.Shared.{Shared}
 use Rattle.shared_heap.specs.Steps as shared
 use Rattle.shared_heap.specs.Weak.{after_assign}
-use Rattle.shared_heap.proofs.Shut.{closed}
-use Rattle.shared_heap.proofs.Stepping.{none_escape}
 use Rattle.local_set.specs.LocalSets.{LocalSet}
-use Rattle.escape_plan.specs.Together.{Together}
-use Rattle.zone_escape.proofs.Needs.{second_out}
-use Rattle.zone_escape.proofs.Shown.{misused, made, running, held, known, full_if, fits_if, did_fit, all_in_heap, is_shared, is_out}
+use Rattle.zone_escape.proofs.Escaped.{has_escaped, is_too_much}
+use Rattle.zone_escape.proofs.Shown.{misused, made, running, held, known}
 use Rattle.zone_escape.proofs.WeakLocations.{turned}
 use Rattle.zone_escape.proofs.weak.set_root.Goals as goal
 
@@ -25,23 +22,21 @@ returns-then-not-branch-clause-ok c =
     let the_call = call.SetWeak (loc.Root c.args.root) c.args.from in
     let can = c.requires in
     let rest = c.escape.ensures.rest in
+    let is = c.register.ensures in
     misused l h the_call can c.escape.new.local c.escape.new.heap misuse.ZoneFull (ap (λ (s : LocalSet). s.thread) rest) (ap (λ (s : LocalSet). s.waiting) rest) (λ z t.
-    let value = held l h the_call can z t c.args.from _ c.register.ensures in
-    let e = c.in_ok-escape.ensures.ok z t (λ b is. cc (is)) (known l h the_call can z t c.args.from _ c.register.ensures) in
-    (e.0, turned z e.0 None c.register.result None _ refl value e.1, full_if _ _ e.2 c.if-not-branch.true, subst (λ b. Together c.escape.new.local c.escape.new.heap (cond b (with_escaped z e.0) z)) c.if-not-branch.true e.3))
+    let e = is_too_much l c.escape.new.local h c.escape.new.heap _ _ _ c.in_ok-escape.ensures.ok z t (λ b none. cc (none)) (known l h the_call can z t c.args.from _ is) c.if-not-branch.true in
+    (e.need, turned z e.need None c.register.result None _ refl (held l h the_call can z t c.args.from _ is) e.tells, e.wrong, e.together))
 
 pub assign_weak-requires-clause-escaped : goal.assign_weak-requires-clause-escaped
 assign_weak-requires-clause-escaped c =
     let l = c.args.local.now in
     let h = c.args.heap.now in
     let the_call = call.SetWeak (loc.Root c.args.root) c.args.from in
-    let can = c.requires in
-    let z = can.together.0 in
-    let t = can.together.1 in
-    let value = known l h the_call can z t c.args.from _ c.register.ensures in
-    let e = c.in_ok-escape.ensures.ok z t (λ b is. cc (is)) value in
-    let together = did_fit c.escape.new.local c.escape.new.heap z e.0 _ c.if-not-branch.false e.3 in
-    all_in_heap c.escape.new.heap (with_escaped z e.0) c.register.result together.heap.stands (second_out z l.thread e.0 None c.register.result value e.1)
+    let z = c.requires.together.0 in
+    let t = c.requires.together.1 in
+    let value = known l h the_call c.requires z t c.args.from c.register.result c.register.ensures in
+    let e = has_escaped l c.escape.new.local h c.escape.new.heap _ _ _ c.in_ok-escape.ensures.ok z t (λ b none. cc (none)) value c.if-not-branch.false in
+    e.value.here
 
 pub returns-clause-ok : goal.returns-clause-ok
 returns-clause-ok c =
@@ -56,26 +51,23 @@ returns-clause-ok c =
     let can = c.requires in
     let rest = c.escape.ensures.rest in
     let says : r ≡ reply.Block v = c.in-Ok.ensures.reply in
-    let value = c.in-Ok.ensures.value ∙ ap (after_assign g (weak.Root c.args.root)) says in
+    let after = c.in-Ok.ensures.value ∙ ap (after_assign g (weak.Root c.args.root)) says in
     let same = ap (λ (s : LocalSet). s.thread) rest in
     let thread = c.thread.ensures ∙ same in
-    made l h the_call can m g k r same (ap (λ (s : LocalSet). s.waiting) rest) (ap (λ (s : Shared). s.holds) value) (ap (λ (s : Shared). s.room) value) (ap (λ (s : Shared). s.options) value) refl (subst (λ x. bare_reply x ≡ x) (sym says) refl)
+    let is = c.register.ensures in
+    made l h the_call can m g k r same (ap (λ (s : LocalSet). s.waiting) rest) (ap (λ (s : Shared). s.holds) after) (ap (λ (s : Shared). s.room) after) (ap (λ (s : Shared). s.options) after) refl (subst (λ x. bare_reply x ≡ x) (sym says) refl)
     (λ z t.
-    let val = held l h the_call can z t c.args.from _ c.register.ensures in
-    let known_value = known l h the_call can z t c.args.from _ c.register.ensures in
-    let e = c.in_ok-escape.ensures.ok z t (λ b is. cc (is)) known_value in
-    let y = with_escaped z e.0 in
-    let together = did_fit m g z e.0 _ c.if-not-branch.false e.3 in
-    let out_value = second_out z l.thread e.0 None v known_value e.1 in
-    let shut = closed y together.heap.sound in
+    let value = held l h the_call can z t c.args.from _ is in
+    let e = has_escaped l m h g None v _ c.in_ok-escape.ensures.ok z t (λ b none. cc (none)) (known l h the_call can z t c.args.from _ is) c.if-not-branch.false in
+    let runs : shared.Runs g (with_escaped z e.need) c.thread.result = record { stands = e.together.heap.stands; running = ap z.ended thread ∙ running l h the_call can z t } in
     record {
-      need = e.0;
-      tells = turned z e.0 None v None _ refl val e.1;
-      right = fits_if _ _ e.2 c.if-not-branch.false;
-      together = together;
-      none = λ q n. elim n [ inl one ↦ none_escape g y v together.heap.stands shut (all_in_heap g y v together.heap.stands out_value) q (subst (λ o. EscOf y o q) (sym val) one) | inr block ↦ block ];
-      leaves = (is_shared y (z.registers l.thread c.args.from) (subst (λ o. is_out y o) val out_value), tt);
+      need = e.need;
+      tells = turned z e.need None v None _ refl value e.tells;
+      right = e.right;
+      together = e.together;
+      none = λ q n. elim n [ inl one ↦ e.value.none _ value q one | inr block ↦ block ];
+      leaves = (e.value.shared _ value, tt);
       still = refl;
-      fine = λ w is. let no : reply.Block v ≡ reply.Misuse w = sym says ∙ is in cc (no);
-      stepped = subst (λ u. shared.Stepped k y u the_call r) thread (c.in-Ok.ensures.step y (loc.Root c.args.root) c.args.from record { stands = together.heap.stands; running = ap z.ended thread ∙ running l h the_call can z t } shut refl (ap (λ u. z.registers u c.args.from) thread ∙ sym val));
+      fine = λ w wrong. let no : reply.Block v ≡ reply.Misuse w = sym says ∙ wrong in cc (no);
+      stepped = subst (λ u. shared.Stepped k (with_escaped z e.need) u the_call r) thread (c.in-Ok.ensures.step (with_escaped z e.need) (loc.Root c.args.root) c.args.from runs e.shut refl (ap (λ u. z.registers u c.args.from) thread ∙ sym value));
     })
