@@ -1,5 +1,5 @@
 //! The blocks of a zone, each at its place.
-ghost use Rattle.std.specs.Prelude.{ℕ, ◌≡◌, ◌<◌, ◌≤◌, ◌+◌, ◌*◌, ◌++◌, ◌∷◌, [], length, get_or, slice_get, OnOk, OnErr, Some, None, MatchOption, IfSome, IsTrue, is_some, min, ◌^◌};
+ghost use Rattle.std.specs.Prelude.{ℕ, ◌≡◌, ◌<◌, ◌≤◌, ◌+◌, ◌*◌, ◌++◌, ◌∷◌, [], length, get_or, slice_get, OnOk, OnErr, Some, None, MatchOption, IfNone, IfSome, IsTrue, ◌↔◌, is_some, min, ◌^◌};
 ghost use Rattle.std.specs.Option.{option_and_then};
 ghost use Rattle.block_layouts.specs.Layouts.{len_of, quanta};
 ghost use Rattle.quantum_space.specs.Regions.{Region', HasBlock, HasWord, IsRoomier, quanta_in, room_of};
@@ -96,11 +96,12 @@ fn small_quanta(words: u32) -> u32
     }
 }
 
-/// The small quanta of blocks of these lengths; None only where one is longer than a layout may be, or the sum is 2^32 or
-/// more. O(their number).
+/// The small quanta of blocks of these lengths; None exactly where one is longer than a layout may be, or the sum is 2^32
+/// or more. O(their number).
 fn list_quanta(lengths: &[u32]) -> Option<u32>
     ensures value { IfSome result (λ sum. sum ≡ list_quanta lengths.now) }
     ensures lengths { IfSome result (λ _. AreLengths lengths.now) }
+    ensures none { IfNone result (AreLengths lengths.now → 2 ^ 32 ≤ list_quanta lengths.now) }
 {
     let mut sum: u32 = 0;
     for words in lengths {
@@ -264,6 +265,7 @@ impl Space {
     pub fn may_reserve(&self, lengths: &[u32]) -> bool
         ensures lengths { IsTrue result → AreLengths lengths.now }
         ensures few { IsTrue result → self.now.used + list_quanta self.now.spare + list_quanta lengths.now < 2 ^ 32 }
+        ensures exact { AreLengths lengths.now → self.now.used + list_quanta self.now.spare + list_quanta lengths.now < 2 ^ 32 → IsTrue result }
     {
         let Some(spare) = list_quanta(self.spare.as_slice()) else {
             return false;
@@ -406,13 +408,10 @@ impl Space {
 
     /// Whether a block with such a word begins at a place. O(1).
     pub fn has_word(&self, p: Place, i: u32) -> bool
-        ensures { IsTrue result → HasWordAt self.now p i }
+        ensures { IsTrue result ↔ HasWordAt self.now p i }
     {
-        match self.spot(p) {
-            Some(spot) => match spot.kind {
-                Kind::Small => self.small.has_word(spot.at, i as usize),
-                Kind::Medium => self.medium.has_word(spot.at, i as usize),
-            },
+        match self.layout(p) {
+            Some(layout) => i < layout.len(),
             None => false,
         }
     }
