@@ -1,5 +1,5 @@
 -- Blocks that are freed one after another
-use Rattle.std.proofs.Common.{◌≡◌, ◌≢◌, inl, inr, ℕ, zero, suc, ◌+◌, ◌<◌, take, get_or, length, slice_index_or, arith, ◌++◌, ◌∷◌, [], List, Option, Some, None, MatchOption, refl, sym, ap, ◌∙◌, subst}
+use Rattle.std.proofs.Common.{◌≡◌, ◌≢◌, inl, inr, ℕ, zero, suc, ◌+◌, ◌<◌, ◌≤◌, take, get_or, length, slice_index_or, arith, ◌++◌, ◌∷◌, [], List, Option, Some, None, MatchOption, refl, sym, ap, ◌∙◌, subst}
 use Rattle.std.proofs.Math.Seq.{take-suc}
 use Rattle.std.proofs.lemmas.List.Elements.{Contains-append_left, Contains-append_right, Contains-append_cases}
 use Rattle.block_layouts.specs.declared.layout.Layout.{Layout}
@@ -59,3 +59,17 @@ one_more_less s mid new ps p less h = record {
         go : (m : Option Layout) → layout_at new q ≡ m → layout_at new q ≡ None
         go None f = f
         go (Some o) f = absurd (let g = step.only q o f in let n : None ≡ Some o = sym e ∙ g in cc)
+
+-- a list of one
+pub less_one : (s new : Space') (p : Place) → HasBlocksLess s new (p ∷ []) → HasBlockLess s new p
+less_one s new p less = record {
+  gone = less.gone p (0, omega arith, refl);
+  others = λ q o d e. less.others q o (λ c. d (only_one p q c.0 c.1 c.2)) e;
+  only = less.only;
+}
+
+pub take_all : (ps : List Place) (n : ℕ) → length ps ≤ n → take n ps ≡ ps
+take_all [] zero l = refl
+take_all [] (suc n) l = refl
+take_all (p ∷ ps) zero l = absurd (omega (arith, l))
+take_all (p ∷ ps) (suc n) l = ap (λ qs. p ∷ qs) (take_all ps n (omega (arith, l)))

@@ -5,3 +5,6 @@ pub mod Still
 pub mod Sums
 pub mod Noting
 pub mod Freeing
+pub mod Right
+pub mod Fewer
+pub mod Referring

@@ -3,7 +3,7 @@ use Rattle.std.proofs.Common.{IfSome, MatchOption, ◌≡◌, ◌≢◌, ◌⊎�
 use Rattle.std.proofs.lemmas.Bool.{ltb-true, lt-ltb}
 use Rattle.std.specs.Option.{option_and_then, option_map_or}
 use Rattle.az_base.specs.declared.block_id.BlockId.{BlockId}
-use Rattle.az_base.specs.declared.word.Word.TheVariants as word
+use Rattle.quantum_space.specs.declared.placed.PlacedWord.TheVariants as word
 use Rattle.block_layouts.specs.declared.layout.Layout.{Layout}
 use Rattle.block_layouts.specs.Layouts.{len_of}
 use Rattle.quantum_space.specs.declared.place.Place.{Place}
@@ -15,7 +15,7 @@ use Rattle.block_space.specs.declared.table.Kind.{Kind}
 use Rattle.block_space.specs.declared.table.Kind.TheVariants as kind
 use Rattle.block_space.specs.declared.table.Subzone.{Subzone}
 use Rattle.block_space.specs.Tables.{Table', IsTable, numbers, opened_with, subzone_of}
-use Rattle.block_space.specs.Spaces.{Space', HasBlockAt, IsFreedAt, IsPlacedAt, IsSpace, IsTakenOff, byte_at, id_at, kind_of, layout_at, other, region, size_of, spot_at, spot_in, spot_of, word_at}
+use Rattle.block_space.specs.Spaces.{Space', HasBlockAt, IsFreedAt, IsPlacedAt, IsSpace, IsTakenOff, byte_at, id_at, kind_of, layout_at, other, region, size_of, spot_at, spot_in, spot_of, placed_at}
 use Rattle.block_space.specs.Maps.{HasBlockLess, HasBlockMore, IsSameBlock, IsSound}
 use Rattle.block_space.proofs.Keeping.{stored_block, unopened_both}
 use Rattle.block_space.proofs.Opening.{end_cases, get_front, table_opened}
@@ -39,7 +39,7 @@ byte_spot s q x e = ap (λ m. option_map_or (λ y. get_or (region s y.kind).map.
 pub id_spot : (s : Space') (q : Place) (x : Spot) → spot_of s q ≡ Some x → id_at s q ≡ get_or (region s x.kind).ids x.at no_id
 id_spot s q x e = ap (λ m. option_map_or (λ y. get_or (region s y.kind).ids y.at no_id) m no_id) e
 
-pub word_spot : (s : Space') (q : Place) (x : Spot) (i : ℕ) → spot_of s q ≡ Some x → word_at s q i ≡ get_or (region s x.kind).words (x.at * (region s x.kind).width + i) word.Null
+pub word_spot : (s : Space') (q : Place) (x : Spot) (i : ℕ) → spot_of s q ≡ Some x → placed_at s q i ≡ get_or (region s x.kind).words (x.at * (region s x.kind).width + i) word.Null
 word_spot s q x i e = ap (λ m. option_map_or (λ y. get_or (region s y.kind).words (y.at * (region s y.kind).width + i) word.Null) m word.Null) e
 
 -- what a place is
@@ -89,7 +89,7 @@ one_place s q p x inv e f =
     sym (inv.there q.subzone a.z a.get).1 ∙ ap (λ k. get_or (numbers s.table k) a.z.index 0) kinds ∙ ap (λ n. get_or (numbers s.table b.z.kind) n 0) rows.0 ∙ (inv.there p.subzone b.z b.get).1 in
     ap (λ n. place_of n q.quantum) numbered ∙ ap (λ n. place_of p.subzone n) rows.1
 
-kind_cases : (j k : Kind) → (j ≡ k) ⊎ (j ≡ other k)
+pub kind_cases : (j k : Kind) → (j ≡ k) ⊎ (j ≡ other k)
 kind_cases kind.Small kind.Small = inl refl
 kind_cases kind.Small kind.Medium = inr refl
 kind_cases kind.Medium kind.Small = inr refl

@@ -1,7 +1,7 @@
 -- Walks over the admin bytes of both kinds
 use Rattle.std.proofs.Common.{◌≡◌, ℕ, ◌+◌, ◌-◌, ◌*◌, min, inl, inr, Option, Some, None, refl, sym, ap, ◌∙◌, arith, length, get_or, slice_get}
 use Rattle.std.specs.Option.{option_and_then, option_map_or}
-use Rattle.az_base.specs.declared.word.Word.TheVariants as word
+use Rattle.quantum_space.specs.declared.placed.PlacedWord.TheVariants as word
 use Rattle.block_layouts.specs.declared.layout.Layout.{Layout}
 use Rattle.quantum_space.specs.declared.admin.Admin.{Admin}
 use Rattle.quantum_space.specs.declared.place.Place.{Place}

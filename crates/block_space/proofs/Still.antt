@@ -1,7 +1,7 @@
 -- Blocks of a region that stay as they were
 use Rattle.std.proofs.Common.{◌≡◌, ◌≢◌, ◌⊎◌, inl, inr, ℕ, ◌+◌, ◌-◌, ◌*◌, ◌<◌, ◌≤◌, List, Option, Some, None, refl, sym, ap, ◌∙◌, subst, arith, length, get_or, set, get_or-set_same, get_or-set_other}
 use Rattle.az_base.specs.declared.block_id.BlockId.{BlockId}
-use Rattle.az_base.specs.declared.word.Word.TheVariants as word
+use Rattle.quantum_space.specs.declared.placed.PlacedWord.TheVariants as word
 use Rattle.block_layouts.specs.declared.layout.Layout.{Layout}
 use Rattle.block_layouts.specs.Layouts.{len_of}
 use Rattle.quantum_space.specs.Regions.{Region', IsFreed, IsPlaced, IsRegion, Lies, no_id, quanta_in}

@@ -1,9 +1,11 @@
 -- Blocks at their places
-use Rattle.std.specs.Prelude.{◌≡◌, ℕ, ◌+◌, ◌-◌, ◌*◌, ◌<◌, ◌≤◌, ◌⊎◌, ◌^◌, ◌∷◌, [], List, Option, Some, None, get_or, slice_get, length, if◌then◌else◌, nat_le, nat_lt, MatchOption, IfSome, Bool, true, drop}
+use Rattle.std.specs.Prelude.{◌≡◌, ℕ, ◌+◌, ◌-◌, ◌*◌, ◌<◌, ◌≤◌, ◌⊎◌, ◌^◌, ◌∷◌, [], List, Option, Some, None, get_or, slice_get, length, if◌then◌else◌, nat_le, nat_lt, ◌/◌, ◌%◌, ◌==◌, ⊤, MatchOption, IfSome, Bool, true, drop}
 use Rattle.std.specs.Option.{option_and_then, option_map_or}
 use Rattle.az_base.specs.declared.block_id.BlockId.{BlockId}
 use Rattle.az_base.specs.declared.word.Word.{Word}
-use Rattle.az_base.specs.declared.word.Word.TheVariants as word
+use Rattle.quantum_space.specs.declared.placed.PlacedWord.{PlacedWord}
+use Rattle.quantum_space.specs.declared.placed.PlacedWord.TheVariants as word
+use Rattle.quantum_space.specs.PlacedWords.{known_number, unknown, word_of}
 use Rattle.block_layouts.specs.declared.layout.Layout.{Layout}
 use Rattle.block_layouts.specs.Layouts.{len_of, quanta}
 use Rattle.quantum_space.specs.declared.admin.Admin.{Admin}
@@ -73,9 +75,13 @@ HasBlockAt s p = MatchOption (spot_of s p) ⊥ (λ x. HasBlock (region s x.kind)
 abbrev pub HasWordAt : Space' → Place → ℕ → Type 0
 HasWordAt s p i = MatchOption (spot_of s p) ⊥ (λ x. HasWord (region s x.kind) x.at i)
 
+-- a word of the block at a place, as it is kept
+abbrev pub placed_at : Space' → Place → ℕ → PlacedWord
+placed_at s p i = option_map_or (λ x. get_or (region s x.kind).words (x.at * (region s x.kind).width + i) word.Null) (spot_of s p) word.Null
+
 -- a word of the block at a place
 abbrev pub word_at : Space' → Place → ℕ → Word
-word_at s p i = option_map_or (λ x. get_or (region s x.kind).words (x.at * (region s x.kind).width + i) word.Null) (spot_of s p) word.Null
+word_at s p i = word_of (placed_at s p i)
 
 -- the id of the block at a place
 abbrev pub id_at : Space' → Place → BlockId
@@ -161,6 +167,10 @@ pub record IsFreedAt (s new : Space') (l : Layout) (x : Spot) : Type 0 where
   pub spare : new.spare ≡ s.spare
   pub used : new.used + quanta (len_of l) ≡ s.used
 
+-- the block at a quantum was freed, if one began there, and the quanta in use are lowered by its own
+abbrev pub IsFreedIn : Region' → Region' → ℕ → ℕ → ℕ → Type 0
+IsFreedIn r new used left at = MatchOption (get_or r.layouts at None) ((new ≡ r) × (left ≡ used)) (λ l. IsFreed r new l at × (left + quanta (len_of l) ≡ used))
+
 -- the block at a place was freed
 abbrev pub IsTakenOff : Space' → Space' → Place → Type 0
 IsTakenOff s new p = MatchOption (spot_of s p) ⊥ (λ x. IfSome (get_or (region s x.kind).layouts x.at None) (λ l. IsFreedAt s new l x))
@@ -181,7 +191,7 @@ abbrev pub with_admin : Space' → Place → Admin → Space'
 with_admin s p a = with_byte_at s p (admin_byte a)
 
 -- with another word of the block at a place
-abbrev pub with_word_at : Space' → Place → ℕ → Word → Space'
+abbrev pub with_word_at : Space' → Place → ℕ → PlacedWord → Space'
 with_word_at s p i w = option_map_or (λ x. with_region s x.kind (with_word (region s x.kind) x.at i w)) (spot_of s p) s
 
 -- the same, remembered or not
@@ -206,3 +216,49 @@ pub record IsRenotedSpace (f : ℕ → ℕ) (s new : Space') : Type 0 where
 -- these are the admin bytes of the subzone with this number
 abbrev pub IsSubzoneMap : Space' → ℕ → List ℕ → Type 0
 IsSubzoneMap s n bytes = MatchOption (slice_get s.table.subzones n) ⊥ (λ z. bytes ≡ subzone_bytes (region s z.kind).map z.index)
+
+-- the number of a kind's quantum among those of both kinds
+abbrev pub number_in : Kind → ℕ → ℕ
+number_in kind.Small at = 2 * at
+number_in kind.Medium at = 2 * at + 1
+
+-- the number that tells in words where a block lies
+abbrev pub spot_number : Spot → ℕ
+spot_number x = if nat_lt x.at 2147483647 then number_in x.kind x.at else unknown
+
+-- where the block lies that a number tells
+abbrev pub number_spot : ℕ → Spot
+number_spot n = spot_at (if n % 2 == 0 then kind.Small else kind.Medium) (n / 2)
+
+-- a reference to the block at a place, which knows where it lies
+abbrev pub reference : Space' → Place → PlacedWord
+reference s p = option_map_or (λ x. word.Block (get_or (region s x.kind).ids x.at no_id) (spot_number x)) (spot_of s p) word.Null
+
+-- a kind's one of two
+abbrev pub of_kind : {X : Type 0} → Kind → X → X → X
+of_kind kind.Small a b = a
+of_kind kind.Medium a b = b
+
+-- a block with this id begins at this quantum
+abbrev pub BeginsAt : List (Option Layout) → List BlockId → ℕ → BlockId → Type 0
+BeginsAt layouts ids at id = MatchOption (get_or layouts at None) ⊥ (λ l. get_or ids at no_id ≡ id)
+
+-- where a word of small and medium blocks knows that its block lies, there it lies
+abbrev pub IsRight : List (Option Layout) → List (Option Layout) → List BlockId → List BlockId → PlacedWord → Type 0
+IsRight ls ms is js word.Null = ⊤
+IsRight ls ms is js (word.Block id n) = MatchOption (known_number n) ⊤ (λ m. BeginsAt (of_kind (number_spot m).kind ls ms) (of_kind (number_spot m).kind is js) (number_spot m).at id)
+IsRight ls ms is js (word.Number n) = ⊤
+
+-- so it is for each word of the blocks of a region, where the blocks are those of two regions
+abbrev pub AreRight : Region' → Region' → Region' → Type 0
+AreRight r a b = (at : ℕ) (l : Layout) → get_or r.layouts at None ≡ Some l → (i : ℕ) → i < len_of l → IsRight a.layouts b.layouts a.ids b.ids (get_or r.words (at * r.width + i) word.Null)
+
+-- a space, each word of which is right about where its block lies
+pub record IsWhole (s : Space') : Type 0 where
+  pub space : IsSpace s
+  pub small : AreRight s.small s.small s.medium
+  pub medium : AreRight s.medium s.small s.medium
+
+-- blocks of both kinds, numbers, lengths of blocks to come, and the quanta in use
+abbrev pub space_of : Region' → Region' → Table' → List ℕ → ℕ → Space'
+space_of a b t ns n = record { small = a; medium = b; table = t; spare = ns; used = n }

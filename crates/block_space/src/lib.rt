@@ -10,8 +10,12 @@
 //! layout and one byte of what the collector notes of it (`Admin`). The quanta in use (`used`) are counted as small ones:
 //! 128 words take 64.
 //!
+//! A word that refers to a block may know where it lies (`refer`, `referent`), so that who follows references need not look
+//! ids up. The type keeps that it is right: a block with that id lies there. So a block may be freed only where no word of
+//! a block that stays knows it to lie there; blocks that refer to one another are freed in one call (`free_all`).
+//!
 //! Room is taken first. `reserve` takes it for blocks of given lengths, which come in that order, and is the only call
-//! that may want memory; `place` then puts each into its hole. All else is O(1), but for `free`, which is O(quanta of the
+//! that may want memory; `place` then puts each into its hole. All else is O(1), but for `free` and `free_all`, which are O(quanta of the
 //! block), `place`, which is O(quanta and words of the block) and what its search passes over, `reserve`, which is
 //! O(lengths still to come) besides what it adds, and `whiten_all` and `age_all`, which walk over the bytes of all
 //! subzones.
@@ -19,6 +23,7 @@
 
 mod space;
 mod spare;
+mod spot_number;
 mod table;
 
 pub use space::{Space, Spot};

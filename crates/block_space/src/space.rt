@@ -1,22 +1,24 @@
 //! The blocks of a zone, each at its place.
-ghost use Rattle.std.specs.Prelude.{ℕ, ◌≡◌, ◌<◌, ◌≤◌, ◌+◌, ◌*◌, ◌++◌, ◌∷◌, [], length, get_or, slice_get, OnOk, OnErr, Some, None, MatchOption, IfNone, IfSome, IsTrue, ◌↔◌, is_some, min, ◌^◌};
+ghost use Rattle.std.specs.Prelude.{ℕ, List, ◌≡◌, ◌<◌, ◌≤◌, ◌+◌, ◌*◌, ◌++◌, ◌∷◌, [], length, get_or, slice_get, OnOk, OnErr, Some, None, MatchOption, IfNone, IfSome, IsTrue, ◌↔◌, is_some, min, ◌^◌};
 ghost use Rattle.std.specs.Option.{option_and_then};
 ghost use Rattle.block_layouts.specs.Layouts.{len_of, quanta};
-ghost use Rattle.quantum_space.specs.Regions.{Region', HasBlock, HasWord, IsRoomier, quanta_in, room_of};
+ghost use Rattle.quantum_space.specs.Regions.{Region', HasBlock, HasWord, IsFreed, IsRegion, IsRoomier, quanta_in, room_of};
 ghost use Rattle.quantum_space.specs.AdminBytes.{admin_of, aged, whitened, with_age, with_shade};
 ghost use Rattle.quantum_space.specs.declared.admin.Admin.{Admin as AnAdmin};
 ghost use Rattle.quantum_space.specs.declared.shade.Shade.TheVariants as shade;
 ghost use Rattle.block_space.specs.Tables.{Table', numbers, opened_with};
-ghost use Rattle.block_space.specs.Spaces.{Space', kind_of, size_of, width_of, region, spot_at, spot_in, spot_of, layout_at, word_at, byte_at, admin_at, id_at, HasBlockAt, HasWordAt, IsRoomierSpace, IsFreedAt, IsTakenOff, IsPlacedAt, IsPlacedIn, IsRenotedSpace, IsSubzoneMap, AreLengths, IsCovered, block_quanta, kind_length, kind_quanta, list_quanta, with_admin, with_word_at, with_card, with_finalised, with_spare};
-ghost use Rattle.block_space.specs.Maps.{AreNoted, AreTakenOff, HasBlockLess, HasBlockMore, HasBlocksLess, MayBeTakenOff, IsSound};
+ghost use Rattle.block_space.specs.Spaces.{Space', kind_of, size_of, width_of, region, spot_in, spot_of, layout_at, placed_at, word_at, byte_at, admin_at, id_at, HasBlockAt, HasWordAt, IsRoomierSpace, IsFreedIn, IsRight, IsTakenOff, IsPlacedAt, IsPlacedIn, IsRenotedSpace, IsSubzoneMap, IsWhole, AreLengths, IsCovered, block_quanta, kind_length, kind_quanta, list_quanta, reference, space_of, with_admin, with_word_at, with_card, with_finalised, with_spare};
+ghost use Rattle.block_space.specs.Maps.{AreNoted, AreTakenOff, HasBlockLess, HasBlockMore, HasBlocksLess, MayBeTakenOff, MayFree, IsSound, RefersTo};
+ghost use Rattle.quantum_space.specs.PlacedWords.{known, unplaced};
 ghost use Rattle.quantum_space.specs.declared.place.Place.{Place as APlace};
 ghost use Rattle.block_space.specs.declared.table.Kind.{Kind as AKind};
 
 use crate::spare::Spare;
+use crate::spot_number::{number_spot, spot_number};
 use crate::table::{Kind, Subzone, Table};
 use az_base::{BlockId, NoMemory, Word};
 use block_layouts::Layout;
-use quantum_space::{Admin, Place, Region, Shade, quanta_in};
+use quantum_space::{Admin, Place, PlacedWord, Region, Shade, quanta_in};
 use std::alloc::Global;
 use std::marker::Model;
 
@@ -51,13 +53,13 @@ pub struct Space {
 }
 
 impl Model for Space {
-    ghost use Rattle.block_space.specs.Spaces.{Space', IsSpace};
+    ghost use Rattle.block_space.specs.Spaces.{Space', IsWhole};
 
     ghost Value = { Space' };
 
     ghost view = { λ s. record { small = s.small; medium = s.medium; table = s.table; spare = s.spare; used = s.used } };
 
-    ghost invariant = { λ s. IsSpace (record { small = s.small; medium = s.medium; table = s.table; spare = s.spare; used = s.used }) };
+    ghost invariant = { λ s. IsWhole (record { small = s.small; medium = s.medium; table = s.table; spare = s.spare; used = s.used }) };
 }
 
 /// The kind of subzones in which a block of so many words lies.
@@ -348,6 +350,7 @@ impl Space {
         requires { slice_get self.old.spare 0 ≡ Some (len_of layout) }
         ensures { IsPlacedAt self.old self.new id layout result }
     {
+        self.is_sound();
         let kind = kind_of(layout.len());
         self.used += layout.quanta();
         self.spare.take_first();
@@ -355,6 +358,47 @@ impl Space {
             Kind::Small => place_in(&mut self.small, &mut self.table, Kind::Small, id, layout),
             Kind::Medium => place_in(&mut self.medium, &mut self.table, Kind::Medium, id, layout),
         }
+    }
+}
+
+/// Where a place is among those of its kind.
+fn spot_by(table: &Table, p: Place) -> Option<Spot>
+    ensures { result ≡ option_and_then (λ z. spot_in z p.quantum) (slice_get table.now.subzones p.subzone) }
+{
+    match table.subzone(p.subzone) {
+        Some(subzone) => spot_in(subzone, p.quantum),
+        None => None,
+    }
+}
+
+/// Frees the block at a quantum, if one begins there.
+fn free_at(region: &mut Region, used: &mut u32, at: usize)
+    requires { block_quanta region.old.layouts ≤ used.old }
+    ensures freed { IsFreedIn region.old region.new used.old used.new at }
+    ensures whole { IsRegion region.old × IsRegion region.new }
+{
+    let _ = region.unopened();
+    if region.begins_at(at) {
+        *used -= quanta_at(region, at);
+        region.free(at);
+    }
+    let _ = region.unopened();
+}
+
+/// Frees the block at a place, if one begins there.
+fn free_there(small: &mut Region, medium: &mut Region, table: &Table, used: &mut u32, p: Place)
+    requires { used.old ≡ block_quanta small.old.layouts + block_quanta medium.old.layouts }
+    ensures freed { (ns : List ℕ) → MayBeTakenOff (space_of small.old medium.old table.now ns used.old) p (space_of small.new medium.new table.now ns used.new) }
+    ensures whole { (IsRegion small.old × IsRegion small.new) × (IsRegion medium.old × IsRegion medium.new) }
+{
+    let _ = small.unopened();
+    let _ = medium.unopened();
+    let Some(spot) = spot_by(table, p) else {
+        return;
+    };
+    match spot.kind {
+        Kind::Small => free_at(small, used, spot.at),
+        Kind::Medium => free_at(medium, used, spot.at),
     }
 }
 
@@ -373,10 +417,7 @@ impl Space {
     fn spot(&self, p: Place) -> Option<Spot>
         ensures { result ≡ spot_of self.now p }
     {
-        match self.table.subzone(p.subzone) {
-            Some(subzone) => spot_in(subzone, p.quantum),
-            None => None,
-        }
+        spot_by(&self.table, p)
     }
 
     /// The layout of the block at a place; None exactly where no block begins there. O(1).
@@ -430,10 +471,10 @@ impl Space {
         }
     }
 
-    /// A word of the block at a place. O(1).
-    pub fn get(&self, p: Place, i: u32) -> Word
+    /// A word of the block at a place, as it is kept.
+    fn placed(&self, p: Place, i: u32) -> PlacedWord
         requires { HasWordAt self.now p i }
-        ensures { result ≡ word_at self.now p i }
+        ensures { result ≡ placed_at self.now p i }
     {
         let Some(spot) = self.spot(p) else {
             unreachable!()
@@ -444,9 +485,87 @@ impl Space {
         }
     }
 
-    /// Changes a word of the block at a place, and nothing else. O(1).
+    /// A word of the block at a place. O(1).
+    pub fn get(&self, p: Place, i: u32) -> Word
+        requires { HasWordAt self.now p i }
+        ensures { result ≡ word_at self.now p i }
+    {
+        self.placed(p, i).word()
+    }
+
+    /// Changes a word of the block at a place, and nothing else. Where the block lies to which it refers is then not known.
+    /// O(1).
     pub fn set(&mut self, p: Place, i: u32, word: Word)
         requires { HasWordAt self.old p i }
+        ensures { self.new ≡ with_word_at self.old p i (unplaced word) }
+    {
+        self.set_placed(p, i, PlacedWord::of(word));
+    }
+
+    /// Where the block lies to which a word of the block at a place refers; None exactly where it refers to none, or where
+    /// that isn't known. O(1).
+    pub fn referent(&self, p: Place, i: u32) -> Option<Place>
+        requires { HasWordAt self.now p i }
+        ensures there { IfSome result (λ q. RefersTo self.now p i q) }
+        ensures none { IfNone result (known (placed_at self.now p i) ≡ None) }
+    {
+        self.is_whole();
+        match self.placed(p, i).known() {
+            Some(number) => Some(self.place_of(number_spot(number))),
+            None => None,
+        }
+    }
+
+    /// The place of the block that begins at a quantum.
+    fn place_of(&self, spot: Spot) -> Place
+        requires { HasBlock (region self.now spot.kind) spot.at }
+        ensures { spot_of self.now result ≡ Some spot }
+    {
+        self.is_sound();
+        let size = size_of(spot.kind);
+        Place {
+            subzone: self.table.number(spot.kind, spot.at / size),
+            quantum: (spot.at % size) as u32,
+        }
+    }
+
+    /// That each word is right about where its block lies, for callers that argue from it.
+    fn is_whole(&self)
+        ensures { IsWhole self.now }
+    {
+        let _ = self.small.unopened();
+    }
+
+    /// Makes a word of the block at a place refer to the block at another one, which it then knows, and changes nothing
+    /// else. O(1).
+    pub fn refer(&mut self, p: Place, i: u32, to: Place)
+        requires word { HasWordAt self.old p i }
+        requires block { HasBlockAt self.old to }
+        ensures { self.new ≡ with_word_at self.old p i (reference self.old to) }
+    {
+        let word = self.reference(to);
+        self.set_placed(p, i, word);
+    }
+
+    /// A reference to the block at a place.
+    fn reference(&self, to: Place) -> PlacedWord
+        requires { HasBlockAt self.now to }
+        ensures value { result ≡ reference self.now to }
+        ensures right { IsRight self.now.small.layouts self.now.medium.layouts self.now.small.ids self.now.medium.ids result }
+    {
+        let Some(spot) = self.spot(to) else {
+            unreachable!()
+        };
+        let id = match spot.kind {
+            Kind::Small => self.small.id(spot.at),
+            Kind::Medium => self.medium.id(spot.at),
+        };
+        PlacedWord::Block(id, spot_number(spot))
+    }
+
+    fn set_placed(&mut self, p: Place, i: u32, word: PlacedWord)
+        requires there { HasWordAt self.old p i }
+        requires right { IsRight self.old.small.layouts self.old.medium.layouts self.old.small.ids self.old.medium.ids word }
         ensures { self.new ≡ with_word_at self.old p i word }
     {
         let Some(spot) = self.spot(p) else {
@@ -565,63 +684,40 @@ impl Space {
         self.medium.age();
     }
 
-    fn free_small(&mut self, at: usize)
-        requires { HasBlock self.old.small at }
-        ensures { IfSome (get_or self.old.small.layouts at None) (λ l. IsFreedAt self.old self.new l (spot_at Kind.Small at)) }
+    /// Whether no word of any subzone knows where its block lies: then any blocks may be freed. O(words of the subzones).
+    pub fn knows_no_place(&self) -> bool
+        ensures { IsTrue result → (ps : List APlace) → MayFree self.now ps }
     {
-        self.used -= quanta_at(&self.small, at);
-        self.small.free(at);
-    }
-
-    fn free_medium(&mut self, at: usize)
-        requires { HasBlock self.old.medium at }
-        ensures { IfSome (get_or self.old.medium.layouts at None) (λ l. IsFreedAt self.old self.new l (spot_at Kind.Medium at)) }
-    {
-        self.used -= quanta_at(&self.medium, at);
-        self.medium.free(at);
+        self.is_sound();
+        self.small.knows_none() && self.medium.knows_none()
     }
 
     /// Frees the block at a place. The place may be given to another block. O(quanta).
     pub fn free(&mut self, p: Place)
-        requires { HasBlockAt self.old p }
+        requires block { HasBlockAt self.old p }
+        requires may { MayFree self.old (p ∷ []) }
         ensures freed { IsTakenOff self.old self.new p }
         ensures less { HasBlockLess self.old self.new p }
     {
-        self.is_sound();
-        self.free_at(p);
+        self.free_all(&[p]);
     }
 
-    /// Frees the blocks at these places, and passes over a place at which none begins. O(places, and quanta of the
-    /// blocks).
+    /// Frees the blocks at these places, and passes over a place at which none begins. No word of a block that stays may
+    /// know that its block lies at one of them. O(places, and quanta of the blocks).
     pub fn free_all(&mut self, places: &[Place])
+        requires { MayFree self.old places.now }
         ensures freed { AreTakenOff self.old places.now self.new }
         ensures less { HasBlocksLess self.old self.new places.now }
     {
+        self.is_sound();
         for place in places {
-            self.free_there(*place);
-        }
-    }
-
-    /// Frees the block at a place, if one begins there.
-    fn free_there(&mut self, p: Place)
-        ensures freed { MayBeTakenOff self.old p self.new }
-        ensures less { MatchOption (layout_at self.old p) (self.new ≡ self.old) (λ _. HasBlockLess self.old self.new p) }
-    {
-        if self.has_block(p) {
-            self.free(p);
-        }
-    }
-
-    fn free_at(&mut self, p: Place)
-        requires { HasBlockAt self.old p }
-        ensures { IsTakenOff self.old self.new p }
-    {
-        let Some(spot) = self.spot(p) else {
-            unreachable!()
-        };
-        match spot.kind {
-            Kind::Small => self.free_small(spot.at),
-            Kind::Medium => self.free_medium(spot.at),
+            free_there(
+                &mut self.small,
+                &mut self.medium,
+                &self.table,
+                &mut self.used,
+                *place,
+            );
         }
     }
 

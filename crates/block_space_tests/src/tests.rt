@@ -44,7 +44,7 @@ fn place(space: &mut Space, words: u32) -> Option<(u32, u32)> {
 /// Frees the block at a place, and says whether there was one.
 fn free(space: &mut Space, subzone: u32, quantum: u32) -> bool {
     let place = Place { subzone, quantum };
-    if space.has_block(place) {
+    if space.has_block(place) && space.knows_no_place() {
         space.free(place);
         true
     } else {
@@ -275,14 +275,60 @@ fn a_list_of_blocks_is_freed(rt: HostRuntime) {
         &lengths,
         &[(0, 0), (0, 1), (1, 0), (1, 1), (0, 3)],
     );
-    space.free_all(&[at(1, 1), at(0, 0), at(0, 2), at(7, 0), at(0, 3), at(0, 0)]);
+    let free = space.knows_no_place();
+    if free {
+        space.free_all(&[at(1, 1), at(0, 0), at(0, 2), at(7, 0), at(0, 3), at(0, 0)]);
+    }
     assert!(rt;
         placed
+            && free
             && begins(&space, 0, 4096, &[0, 0x80, 0x83, 0, 0])
             && begins(&space, 1, 256, &[0x80, 0, 0, 0])
             && space.used() == 66
             && have_serials(&space, &[(0, 1, 4), (1, 0, 65)])
     );
+}
+
+/// Makes the first word of a block refer to another block, and says where the space knows that this lies.
+fn refer(space: &mut Space, from: Place, to: Place) -> Option<(Word, Place)> {
+    if space.has_word(from, 0) && space.has_block(to) {
+        space.refer(from, 0, to);
+    }
+    if space.has_word(from, 0) {
+        Some((space.get(from, 0), space.referent(from, 0)?))
+    } else {
+        None
+    }
+}
+
+/// Whether the first word of a block tells nothing of a place once it was set.
+fn forgets(space: &mut Space, place: Place, word: Word) -> bool {
+    if space.has_word(place, 0) {
+        space.set(place, 0, word);
+    }
+    space.has_word(place, 0) && space.get(place, 0) == word && space.referent(place, 0).is_none()
+}
+
+/// A reference to the first thread's block with this serial.
+fn reference(serial: u32) -> Word {
+    match id(serial) {
+        Some(id) => Word::Block(id),
+        None => Word::Null,
+    }
+}
+
+#[test]
+fn words_know_where_their_blocks_lie(rt: HostRuntime) {
+    let mut space = Space::new(rt.alloc());
+    let right = are_placed(&mut space, &[4, 65, 2], &[(0, 0), (1, 0), (0, 2)])
+        && space.knows_no_place()
+        && refer(&mut space, at(0, 0), at(1, 0)) == Some((reference(65), at(1, 0)))
+        && refer(&mut space, at(1, 0), at(0, 2)) == Some((reference(2), at(0, 2)))
+        && !space.knows_no_place()
+        && forgets(&mut space, at(0, 0), reference(2))
+        && forgets(&mut space, at(1, 0), Word::Number(7))
+        && space.knows_no_place();
+    assert!(rt; right);
 }
 
 #[test]

@@ -4,7 +4,7 @@ use Rattle.std.specs.Bool.{⊤}
 use Rattle.std.proofs.Common.{MatchOption, Bool, true, false, ◌==◌, if◌then◌else◌, ◌≡◌, ◌≢◌, ◌⊎◌, inl, inr, ℕ, zero, suc, ◌+◌, ◌-◌, ◌*◌, ◌/◌, ◌%◌, ◌<◌, ◌≤◌, max, List, [], Option, Some, None, refl, sym, ap, ◌∙◌, subst, arith, length, get_or, set, get_or-set_same, get_or-set_other}
 use Rattle.std.proofs.Math.ListN.{length-set}
 use Rattle.az_base.specs.declared.block_id.BlockId.{BlockId}
-use Rattle.az_base.specs.declared.word.Word.{Word}
+use Rattle.quantum_space.specs.declared.placed.PlacedWord.{PlacedWord}
 use Rattle.block_layouts.specs.declared.layout.Layout.{Layout}
 use Rattle.block_layouts.specs.Layouts.{len_of}
 use Rattle.quantum_space.specs.AdminMaps.{AdminMap', AllAre, HasNoHole, IsChanged, IsFirstOf, IsGrown, IsHoleIn, SameOutside, with_bytes}
@@ -117,7 +117,7 @@ block_used r at l k lies b e = elim (three_ways k at) [
 
 -- a block elsewhere stays, where the bytes of a hole alone changed
 module _ (r : Region') (bytes : List ℕ) (from end : ℕ) (same : SameOutside r.map.bytes bytes from end) where
-  pub lies_still : (ids : List BlockId) (layouts : List (Option Layout)) (words : List Word) (opened top at : ℕ) (l : Layout)
+  pub lies_still : (ids : List BlockId) (layouts : List (Option Layout)) (words : List PlacedWord) (opened top at : ℕ) (l : Layout)
       → ((k : ℕ) → at ≤ k → k < at + quanta_in r.width (len_of l) → (k < from) ⊎ (end ≤ k)) → 0 < quanta_in r.width (len_of l) → Lies r at l
       → Lies (record { map = with_bytes r.map bytes; ids = ids; layouts = layouts; words = words; width = r.width; opened = opened; top = top }) at l
   lies_still ids layouts words opened top at l apart some lies = record {
@@ -149,7 +149,7 @@ hole_fresh r n f at inv some first e = go (get_or r.layouts at None) refl
     go (Some l) x = absurd (let b = (inv.blocks at l x).begins.0 in omega (arith, free, b))
 
 -- a region with a block more
-module _ (r : Region') (inv : IsRegion r) (id : BlockId) (l : Layout) (f : ℕ × ℕ) (at : ℕ) (bytes : List ℕ) (words : List Word)
+module _ (r : Region') (inv : IsRegion r) (id : BlockId) (l : Layout) (f : ℕ × ℕ) (at : ℕ) (bytes : List ℕ) (words : List PlacedWord)
     (first : IsFirstOf r.map (quanta_in r.width (len_of l)) f)
     (place : at ≡ f.0 * r.map.size + f.1)
     (few : quanta_in r.width (len_of l) ≤ 32)
@@ -383,7 +383,7 @@ pub written : (m m1 m2 n : AdminMap') (at end : ℕ) → m1 ≡ m → m2 ≡ wit
 written m m1 m2 n at end e f c all l b =
     written_here m n at end (subst (λ (x : AdminMap'). IsChanged (with_bytes x (set x.bytes at new_byte)) n (at + 1) end) e (subst (λ (x : AdminMap'). IsChanged x n (at + 1) end) f c)) all l b
 
-pub same_region : (m m1 : AdminMap') (is is1 : List BlockId) (ls ls1 : List (Option Layout)) (ws : List Word) (w o o1 t t1 : ℕ) → m1 ≡ m → is1 ≡ is → ls1 ≡ ls → o1 ≡ o → t1 ≡ t
+pub same_region : (m m1 : AdminMap') (is is1 : List BlockId) (ls ls1 : List (Option Layout)) (ws : List PlacedWord) (w o o1 t t1 : ℕ) → m1 ≡ m → is1 ≡ is → ls1 ≡ ls → o1 ≡ o → t1 ≡ t
     → IsRegion (record { map = m; ids = is; layouts = ls; words = ws; width = w; opened = o; top = t }) → IsRegion (record { map = m1; ids = is1; layouts = ls1; words = ws; width = w; opened = o1; top = t1 })
 same_region m m1 is is1 ls ls1 ws w o o1 t t1 e h d f g i =
     subst (λ (x : AdminMap'). IsRegion (record { map = x; ids = is1; layouts = ls1; words = ws; width = w; opened = o1; top = t1 })) (sym e)
@@ -423,7 +423,7 @@ region_none m size width large wide e f g = record {
 }
 
 -- a subzone more
-pub region_grown : (r : Region') (m : AdminMap') (is : List BlockId) (ls : List (Option Layout)) (ws : List Word) → IsRegion r → IsGrown r.map m
+pub region_grown : (r : Region') (m : AdminMap') (is : List BlockId) (ls : List (Option Layout)) (ws : List PlacedWord) → IsRegion r → IsGrown r.map m
     → length is ≡ length r.ids + r.map.size → length ls ≡ length r.layouts + r.map.size → length ws ≡ length r.words + r.map.size * r.width
     → ((k : ℕ) → get_or ls k None ≡ get_or r.layouts k None)
     → IsRegion (record { map = m; ids = is; layouts = ls; words = ws; width = r.width; opened = r.opened; top = r.top })
@@ -490,7 +490,7 @@ region_noted r at byte l inv stored first = record {
     }
 
 -- other words
-pub region_written : (r : Region') (at i : ℕ) (w : Word) → IsRegion r → IsRegion (with_word r at i w)
+pub region_written : (r : Region') (at i : ℕ) (w : PlacedWord) → IsRegion r → IsRegion (with_word r at i w)
 region_written r at i w inv = record {
   wide = inv.wide;
   large = inv.large;

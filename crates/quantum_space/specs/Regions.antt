@@ -4,8 +4,8 @@ use Rattle.az_base.specs.declared.block_id.BlockId.{BlockId}
 use Rattle.az_base.specs.Ids.{id_of}
 use Rattle.az_base.specs.declared.word.Class.{Class}
 use Rattle.az_base.specs.declared.word.Class.TheVariants as class
-use Rattle.az_base.specs.declared.word.Word.{Word}
-use Rattle.az_base.specs.declared.word.Word.TheVariants as word
+use Rattle.quantum_space.specs.declared.placed.PlacedWord.{PlacedWord}
+use Rattle.quantum_space.specs.declared.placed.PlacedWord.TheVariants as word
 use Rattle.block_layouts.specs.declared.layout.Layout.{Layout}
 use Rattle.block_layouts.specs.Layouts.{len_of, class_at}
 use Rattle.quantum_space.specs.AdminMaps.{AdminMap', AllAre, IsFirstOf, IsRenoted, SameOutside, with_bytes}
@@ -15,7 +15,7 @@ pub record Region' : Type 0 where
   pub map : AdminMap'
   pub ids : List BlockId
   pub layouts : List (Option Layout)
-  pub words : List Word
+  pub words : List PlacedWord
   pub width : ℕ
   pub opened : ℕ
   pub top : ℕ
@@ -69,18 +69,18 @@ abbrev pub room_of : Region' → ℕ
 room_of r = (r.opened * r.map.size - r.top) + (r.map.subzones - r.opened) * (r.map.size - 31)
 
 -- what a new word of this class holds: null, and 0 in a Plain one
-abbrev pub new_word : Option Class → Word
+abbrev pub new_word : Option Class → PlacedWord
 new_word (Some class.Plain) = word.Number 0
 new_word (Some class.Strong) = word.Null
 new_word (Some class.Weak) = word.Null
 new_word None = word.Null
 
 -- the words outside a range are the same
-abbrev pub SameWords : List Word → List Word → ℕ → ℕ → Type 0
+abbrev pub SameWords : List PlacedWord → List PlacedWord → ℕ → ℕ → Type 0
 SameWords old new from end = (k : ℕ) → (k < from) ⊎ (end ≤ k) → get_or new k word.Null ≡ get_or old k word.Null
 
 -- so many words from a place on are those of a new block
-abbrev pub AreNew : List Word → ℕ → ℕ → Layout → Type 0
+abbrev pub AreNew : List PlacedWord → ℕ → ℕ → Layout → Type 0
 AreNew words from len l = (i : ℕ) → i < len → get_or words (from + i) word.Null ≡ new_word (class_at l i)
 
 -- a block was placed in the first hole, in a subzone that was opened or in the next
@@ -124,7 +124,7 @@ abbrev pub with_byte : Region' → ℕ → ℕ → Region'
 with_byte r at byte = record { map = with_bytes r.map (set r.map.bytes at byte); ids = r.ids; layouts = r.layouts; words = r.words; width = r.width; opened = r.opened; top = r.top }
 
 -- with this word, counted from the first quantum's first
-abbrev pub with_word : Region' → ℕ → ℕ → Word → Region'
+abbrev pub with_word : Region' → ℕ → ℕ → PlacedWord → Region'
 with_word r at i w = record { map = r.map; ids = r.ids; layouts = r.layouts; words = set r.words (at * r.width + i) w; width = r.width; opened = r.opened; top = r.top }
 
 -- a block of at least so many words begins at this quantum

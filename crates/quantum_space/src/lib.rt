@@ -19,6 +19,7 @@ mod graph;
 mod greys;
 mod holes;
 mod place;
+mod placed;
 mod region;
 mod shade;
 
@@ -29,5 +30,6 @@ pub use admin::{
 pub use graph::{Found, Graph};
 pub use greys::Greys;
 pub use place::{Place, places_are_ordered_by_subzone};
+pub use placed::{PlacedWord, UNKNOWN};
 pub use region::{Region, blocks_lie_apart, quanta_in};
 pub use shade::Shade;

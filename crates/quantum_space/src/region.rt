@@ -1,17 +1,19 @@
 //! The blocks of one kind: their admin bytes, ids, layouts and words, each in one list by quantum. A block's words begin
 //! at its first quantum.
-ghost use Rattle.std.specs.Prelude.{ℕ, ◌≡◌, ◌≢◌, ◌<◌, ◌≤◌, ◌+◌, ◌-◌, ◌*◌, length, get_or, set, None, Some, ◌^◌, ◌⊎◌, IfSome, IsTrue, is_some, MatchOption, OnOk, OnErr};
+ghost use Rattle.std.specs.Prelude.{ℕ, ◌≡◌, ◌≢◌, ◌<◌, ◌≤◌, ◌+◌, ◌-◌, ◌*◌, length, get_or, set, None, Some, ◌^◌, ◌⊎◌, IfSome, IsTrue, ◌↔◌, is_some, MatchOption, OnOk, OnErr};
 ghost use Rattle.block_layouts.specs.Layouts.{len_of};
 ghost use Rattle.block_layouts.specs.declared.layout.Layout.{Layout as ALayout};
 ghost use Rattle.quantum_space.specs.Regions.{AreNew, IsRegion, Lies, Region', HasBlock, HasWord, IsFirstByte, IsFreed, IsPlaced, IsRenotedRegion, IsRoomier, SameWords, new_word, no_id, quanta_in, room_of, with_byte, with_word};
 ghost use Rattle.quantum_space.specs.AdminBytes.{aged, whitened};
+ghost use Rattle.quantum_space.specs.PlacedWords.{known};
 ghost use Rattle.quantum_space.specs.AdminMaps.{subzone_bytes};
 ghost use Rattle.std.specs.Vec.{vec_capacity};
-ghost use Rattle.az_base.specs.declared.word.Word.TheVariants.{Null};
+ghost use Rattle.quantum_space.specs.declared.placed.PlacedWord.TheVariants.{Null};
 
 use crate::admin::FURTHER;
 use crate::admin_map::{AdminMap, append};
-use az_base::{BlockId, Class, NoMemory, ThreadNo, Word};
+use crate::placed::PlacedWord;
+use az_base::{BlockId, Class, NoMemory, ThreadNo};
 use block_layouts::Layout;
 use std::alloc::Global;
 use std::marker::Model;
@@ -25,7 +27,7 @@ pub struct Region {
     map: AdminMap,
     ids: Vec<BlockId>,
     layouts: Vec<Option<Layout>>,
-    words: Vec<Word>,
+    words: Vec<PlacedWord>,
     width: usize,
     opened: usize,
     top: usize,
@@ -50,19 +52,19 @@ pub fn quanta_in(width: usize, len: usize) -> usize
 }
 
 /// What a new word of this class holds.
-fn new_word(class: Option<Class>) -> Word
+fn new_word(class: Option<Class>) -> PlacedWord
     ensures { result ≡ new_word class }
 {
     match class {
-        Some(Class::Plain) => Word::Number(0),
-        Some(Class::Strong) => Word::Null,
-        Some(Class::Weak) => Word::Null,
-        None => Word::Null,
+        Some(Class::Plain) => PlacedWord::Number(0),
+        Some(Class::Strong) => PlacedWord::Null,
+        Some(Class::Weak) => PlacedWord::Null,
+        None => PlacedWord::Null,
     }
 }
 
 /// Writes the words of a new block. O(words).
-fn write_new(words: &mut Vec<Word>, from: usize, layout: &Layout)
+fn write_new(words: &mut Vec<PlacedWord>, from: usize, layout: &Layout)
     requires { from + len_of layout.now ≤ length words.old.items }
     ensures length { length words.new.items ≡ length words.old.items }
     ensures new { AreNew words.new.items from (len_of layout.now) layout.now }
@@ -113,6 +115,18 @@ fn quanta_at(layouts: &[Option<Layout>], at: usize, width: usize) -> usize
         Some(layout) => quanta_in(width, layout.len() as usize),
         None => 0,
     }
+}
+
+/// Whether none of the words knows where its block lies.
+fn none_known(words: &[PlacedWord]) -> bool
+    ensures { IsTrue result → (k : ℕ) → k < length words.now → known (get_or words.now k Null) ≡ None }
+{
+    for word in words {
+        if word.known().is_some() {
+            return false;
+        }
+    }
+    true
 }
 
 /// Sets an item of a list.
@@ -204,7 +218,7 @@ impl Region {
         };
         append(&mut self.ids, no_id(), size);
         append_none(&mut self.layouts, size);
-        append(&mut self.words, Word::Null, words);
+        append(&mut self.words, PlacedWord::Null, words);
         Ok(())
     }
 
@@ -250,7 +264,7 @@ impl Region {
     }
 
     /// A word of the block that begins at a quantum. O(1).
-    pub fn word(&self, at: usize, i: usize) -> Word
+    pub fn word(&self, at: usize, i: usize) -> PlacedWord
         requires { HasWord self.now at i }
         ensures { result ≡ get_or self.now.words (at * self.now.width + i) Null }
     {
@@ -258,11 +272,18 @@ impl Region {
     }
 
     /// Changes a word of the block that begins at a quantum. O(1).
-    pub fn set_word(&mut self, at: usize, i: usize, word: Word)
+    pub fn set_word(&mut self, at: usize, i: usize, word: PlacedWord)
         requires { HasWord self.old at i }
         ensures { self.new ≡ with_word self.old at i word }
     {
         self.words[at * self.width + i] = word;
+    }
+
+    /// Whether no word of any subzone knows where its block lies. O(words of the subzones).
+    pub fn knows_none(&self) -> bool
+        ensures { IsTrue result → (k : ℕ) → k < length self.now.words → known (get_or self.now.words k Null) ≡ None }
+    {
+        none_known(&self.words)
     }
 
     /// The admin byte of a quantum at which a block begins. O(1).
@@ -375,7 +396,7 @@ impl Region {
 
     /// Whether the block that begins at a quantum has such a word. O(1).
     pub fn has_word(&self, at: usize, i: usize) -> bool
-        ensures { IsTrue result → HasWord self.now at i }
+        ensures { IsTrue result ↔ HasWord self.now at i }
     {
         match self.layout(at) {
             Some(layout) => i < layout.len() as usize,

@@ -1,6 +1,6 @@
 use az_base::{BlockId, ThreadNo, Word};
 use block_layouts::Layout;
-use quantum_space::{Admin, Region, Shade};
+use quantum_space::{Admin, PlacedWord, Region, Shade};
 use std::alloc::Global;
 use std::test::*;
 
@@ -126,11 +126,11 @@ fn words_are_kept(region: &mut Region) -> bool {
     if place(region, 3) != Some((0, 0)) || !region.has_word(0, 2) {
         return false;
     }
-    let was_null = region.word(0, 2) == Word::Null;
+    let was_null = region.word(0, 2).word() == Word::Null;
     if region.has_word(0, 2) {
-        region.set_word(0, 2, Word::Number(7));
+        region.set_word(0, 2, PlacedWord::of(Word::Number(7)));
     }
-    was_null && region.has_word(0, 2) && region.word(0, 2) == Word::Number(7)
+    was_null && region.has_word(0, 2) && region.word(0, 2).word() == Word::Number(7)
 }
 
 #[test]

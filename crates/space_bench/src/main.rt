@@ -77,7 +77,9 @@ fn thin(alloc: Global, space: &mut Space, places: &[Place]) -> Result<Vec<Place>
             left.push(*place)?;
         }
     }
-    space.free_all(&freed);
+    if space.knows_no_place() {
+        space.free_all(&freed);
+    }
     Ok(left)
 }
 

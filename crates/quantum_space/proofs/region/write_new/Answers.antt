@@ -1,20 +1,20 @@
 use Rattle.std.proofs.Common.{◌≡◌, ◌≢◌, ◌+◌, ◌<◌, ◌∙◌, ℕ, List, inl, inr, arith, refl, ap, subst, length, get_or, set, get_or-set_other}
 use Rattle.std.proofs.Math.ListN.{length-set}
-use Rattle.az_base.specs.declared.word.Word.{Word}
-use Rattle.az_base.specs.declared.word.Word.TheVariants as word
+use Rattle.quantum_space.specs.declared.placed.PlacedWord.{PlacedWord}
+use Rattle.quantum_space.specs.declared.placed.PlacedWord.TheVariants as word
 use Rattle.block_layouts.specs.declared.layout.Layout.{Layout}
 use Rattle.block_layouts.specs.Layouts.{class_at, len_of}
 use Rattle.quantum_space.specs.Regions.{AreNew, SameWords, new_word}
 use Rattle.quantum_space.proofs.Cursors.{set_cases}
 use Rattle.quantum_space.proofs.region.write_new.Goals as goal
 
-one_more : (xs : List Word) (from i : ℕ) (l : Layout) (x : Word) → from + i < length xs → x ≡ new_word (class_at l i) → AreNew xs from i l → AreNew (set xs (from + i) x) from (i + 1) l
+one_more : (xs : List PlacedWord) (from i : ℕ) (l : Layout) (x : PlacedWord) → from + i < length xs → x ≡ new_word (class_at l i) → AreNew xs from i l → AreNew (set xs (from + i) x) from (i + 1) l
 one_more xs from i l x b e new j k =
     set_cases (λ p y. p ≡ from + j → y ≡ new_word (class_at l j)) xs (from + i) x word.Null b
     (λ q. (let s : i ≡ j = omega (arith, q) in e ∙ ap (λ n. new_word (class_at l n)) s))
     (λ p a q. (let d : j ≢ i = λ s. a (q ∙ ap (λ n. from + n) s) in ap (λ n. get_or xs n word.Null) q ∙ new j (omega (arith, d, k)))) (from + j) refl
 
-others_more : (was xs : List Word) (from i : ℕ) (x : Word) → SameWords was xs from (from + i) → SameWords was (set xs (from + i) x) from (from + (i + 1))
+others_more : (was xs : List PlacedWord) (from i : ℕ) (x : PlacedWord) → SameWords was xs from (from + i) → SameWords was (set xs (from + i) x) from (from + (i + 1))
 others_more was xs from i x same k (inl l) = get_or-set_other xs (from + i) k x word.Null (λ e. absurd (omega (arith, e, l))) ∙ same k (inl l)
 others_more was xs from i x same k (inr l) = get_or-set_other xs (from + i) k x word.Null (λ e. absurd (omega (arith, e, l))) ∙ same k (inr (omega (arith, l)))
 

@@ -2,10 +2,11 @@ use Rattle.std.proofs.Common.{subst}
 use Rattle.quantum_space.specs.AdminBytes.{aged}
 use Rattle.block_space.specs.Spaces.{IsRenotedSpace, Space'}
 use Rattle.block_space.proofs.Noting.{both_renoted, space_renoted}
+use Rattle.block_space.proofs.Right.{whole_renoted}
 use Rattle.block_space.proofs.space.Space.age.Goals as goal
 
 pub invariant_of-self : goal.invariant_of-self
-invariant_of-self c = space_renoted aged _ _ _ c.self.invariant c.age.ensures c.age-2.ensures
+invariant_of-self c = whole_renoted aged _ _ _ c.self.invariant c.age.ensures c.age-2.ensures (space_renoted aged _ _ _ c.self.invariant.space c.age.ensures c.age-2.ensures)
 
 pub returns : goal.returns
 returns c =

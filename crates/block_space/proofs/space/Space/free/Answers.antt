@@ -1,5 +1,5 @@
-use Rattle.block_space.proofs.Mapping.{taken_off}
+use Rattle.block_space.proofs.Freeing.{less_one}
 use Rattle.block_space.proofs.space.Space.free.Goals as goal
 
 pub returns-clause-less : goal.returns-clause-less
-returns-clause-less c = taken_off _ _ c.is_sound.ensures c.args.p c.requires c.free_at.ensures
+returns-clause-less c = less_one _ _ _ c.free_all.ensures.less

@@ -5,4 +5,4 @@ use Rattle.block_space.proofs.Mapping.{sound_of}
 use Rattle.block_space.proofs.space.Space.is_sound.Goals as goal
 
 pub returns : goal.returns
-returns c = subst (λ (v : Space'). IsSound v) c.self.view_is (sound_of _ c.self.invariant c.len.ensures.whole c.unopened.ensures.whole c.unopened-2.ensures.whole)
+returns c = subst (λ (v : Space'). IsSound v) c.self.view_is (sound_of _ c.self.invariant.space c.len.ensures.whole c.unopened.ensures.whole c.unopened-2.ensures.whole)

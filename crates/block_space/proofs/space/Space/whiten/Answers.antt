@@ -2,10 +2,11 @@ use Rattle.std.proofs.Common.{subst}
 use Rattle.quantum_space.specs.AdminBytes.{whitened}
 use Rattle.block_space.specs.Spaces.{IsRenotedSpace, Space'}
 use Rattle.block_space.proofs.Noting.{both_renoted, space_renoted}
+use Rattle.block_space.proofs.Right.{whole_renoted}
 use Rattle.block_space.proofs.space.Space.whiten.Goals as goal
 
 pub invariant_of-self : goal.invariant_of-self
-invariant_of-self c = space_renoted whitened _ _ _ c.self.invariant c.whiten.ensures c.whiten-2.ensures
+invariant_of-self c = whole_renoted whitened _ _ _ c.self.invariant c.whiten.ensures c.whiten-2.ensures (space_renoted whitened _ _ _ c.self.invariant.space c.whiten.ensures c.whiten-2.ensures)
 
 pub returns : goal.returns
 returns c =

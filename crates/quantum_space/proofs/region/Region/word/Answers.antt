@@ -1,6 +1,6 @@
 use Rattle.std.proofs.Common.{◌≡◌, ◌+◌, ◌*◌, sym, subst, arith, get_or}
 use Rattle.std.proofs.lemmas.List.{get_or_read}
-use Rattle.az_base.specs.declared.word.Word.TheVariants as word
+use Rattle.quantum_space.specs.declared.placed.PlacedWord.TheVariants as word
 use Rattle.quantum_space.specs.Regions.{Region', HasWord}
 use Rattle.quantum_space.proofs.Placing.{word_inside}
 use Rattle.quantum_space.proofs.region.Region.word.Goals as goal
