@@ -6,3 +6,4 @@ pub mod Once
 pub mod Whole
 pub mod Playing
 pub mod Few
+pub mod Rooms

@@ -40,6 +40,11 @@ pub fn plays_are_histories()
     ensures { (o : Options) (requests : List Request) (history : List Entry) (stats : Stats) → All IsProper requests → IsPlayOf o requests history stats → IsHistoryOf o requests history stats }
 {}
 
+/// What a play is doesn't look at the room of the lists in its replies.
+pub fn plays_do_not_look_at_room()
+    ensures { (o : Options) (requests : List Request) (one other : List Entry) (stats : Stats) → SameButRoom one other → IsPlayOf o requests one stats → IsPlayOf o requests other stats }
+{}
+
 /// What is asked for has one history in the order of `play`, but for the room of the lists in its replies, and one end.
 pub fn requests_are_played_in_one_way()
     ensures { (o : Options) (requests : List Request) (one other : List Entry) (stats its : Stats) → All IsProper requests

@@ -23,6 +23,6 @@ mod laws;
 pub use laws::{
     a_turn_stays_in_order, all_turns_are_the_play, as_many_wait_as_stand_past_the_end,
     at_first_nothing_is_asked_for, no_more_wait_than_may,
-    parts_come_from_published_and_waiting_entries, plays_are_histories,
+    parts_come_from_published_and_waiting_entries, plays_are_histories, plays_do_not_look_at_room,
     requests_are_played_in_one_way, small_orders, waiting_lists_keep_the_order,
 };
