@@ -1,25 +1,24 @@
-//! The zone of one thread, and the loop that plays a script on it.
+//! A zone of several threads, and the loop that plays a script on it.
 //!
-//! A zone is the heap of the blocks that have escaped, and what its thread has of its own: registers, unescaped blocks,
-//! and how many blocks it made. A call on an unescaped block is the thread's own business; any other goes to the heap,
-//! after what it makes reachable from there has escaped: first it is planned which blocks that are, then room is taken,
-//! and then they move, so that a call that is refused has changed nothing. No collection is built yet: so there is no
-//! cycle in which a call could fall, and an escaped block stays until the thread's leave.
+//! **The problem.** A thread's local calls wait, and are published later and together. So at each moment there is what was
+//! published, and what waits of each thread, and the zone must be right whichever of them goes on next.
 //!
-//! `play` plays a whole script: each line's call becomes an entry with its reply, and the leave is the last one.
+//! **The mechanism.** A `World` is a core, which has the heap and the journal, and one local set for each thread. A step is
+//! one call of one thread.
+//! - A local call is made on the thread's own set, and waits. Where as many entries wait as the option pending says, they
+//!   are published first.
+//! - Any other call publishes what waits of its thread, and is made on the set and the core.
+//!
+//! What is published is legal, and so is what is published followed by what waits of all threads, in any order of the
+//! threads: the type keeps this, so it holds after every list of steps. No step touches another thread's set.
+//!
+//! `play` makes the calls of a script's lines, one after another, and then each thread leaves, in ascending number. The
+//! history that comes of it is the only one in the order that `play_order` defines.
 #![tactic(auto)]
 
-mod assocs;
-mod births;
-mod counts;
-mod ends;
-mod escapes;
-mod planning;
 mod playing;
-mod registers;
-mod roots;
-mod weak;
-mod words;
-mod zone;
+mod turns;
+mod world;
 
 pub use playing::{Recording, play};
+pub use world::World;

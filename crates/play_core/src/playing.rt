@@ -1,26 +1,20 @@
-//! A whole script, played by the zone.
-ghost use Rattle.std.specs.Prelude.{◌≡◌, [], IfOk, OnErr, map};
+//! A whole script, played by a world.
+ghost use Rattle.std.specs.Prelude.{◌≡◌, ◌==◌, [], ◌∷◌, ◌++◌, true, filter, All, IfOk, OnOk};
+ghost use Rattle.std.specs.List.{list_any};
 ghost use Rattle.az_base.specs.OptionRanges.{IsValid};
-ghost use Rattle.heap_script.specs.Scripts.{AllBuilt, OneThread, IsBuilt};
-ghost use Rattle.zone_model.specs.State.{opening};
-ghost use Rattle.zone_model.specs.declared.call.Call.TheVariants as call;
-ghost use Rattle.play_core.specs.StandsFor.{StandsFor, IsReal, Plays, StandsAsBefore, EndsBy};
-ghost use Rattle.zone_history.specs.Histories.{IsHistoryOf};
-ghost use Rattle.play_core.specs.Playing.{IsBuiltCall, IsHistoryOfOne, no_stats, requests_of};
+ghost use Rattle.heap_script.specs.Scripts.{AllBuilt, IsBuilt};
+ghost use Rattle.zone_history.specs.Histories.{IsHistoryOf, is_asked};
+ghost use Rattle.zone_model.specs.declared.act.Act.{Act};
+ghost use Rattle.play_order.specs.Play.{IsPlayOf, IsProper, threads_of as asked_threads};
+ghost use Rattle.play_order.specs.Playing.{SoFar};
+ghost use Rattle.play_core.specs.Playing.{IsBuiltCall, PlaysLine, CanPlay, requests, requests_of};
+ghost use Rattle.play_core.specs.Worlds.{seen};
 
-use crate::assocs::{get_assoc, set_assoc};
-use crate::births::make_block;
-use crate::counts::{count, release, retain, take};
-use crate::ends::{leave, stats};
-use crate::registers::{copy, drop_reg};
-use crate::roots::{get_root, set_root};
-use crate::weak::{read_weak, set_weak};
-use crate::words::{get, load, put, store};
-use crate::zone::SoloZone;
-use az_base::{NoMemory, Options, ThreadNo};
+use crate::world::World;
+use az_base::{MOST_THREADS, NoMemory, ThreadNo};
 use heap_script::{Act, Line, Script};
 use std::alloc::Global;
-use zone_model::{Call, Entry, Reply, Stats};
+use zone_model::{Call, Entry, Stats};
 
 /// The history of a script, and the statistics of its end.
 #[derive(Drop)]
@@ -29,148 +23,114 @@ pub struct Recording {
     pub stats: Stats,
 }
 
-/// One call of the thread, with its reply.
-fn step(alloc: Global, zone: &mut SoloZone, call: &Call) -> Result<Reply, NoMemory>
-    requires built { IsBuiltCall call.now }
-    requires real { IsReal zone.old }
-    ensures ok { IfOk result (λ reply. Plays zone.old zone.new call.now reply) }
-    ensures err { OnErr result (StandsAsBefore zone.old zone.new) }
-    ensures thread { zone.new.thread ≡ zone.old.thread }
+/// Whether a line is the thread's.
+fn has_line(lines: &[Line], thread: ThreadNo) -> bool
+    ensures { result ≡ list_any (λ line. line.thread == thread) lines.now }
 {
-    match call {
-        Call::New {
-            to,
-            layout,
-            actions,
-        } => make_block(alloc, zone, *to, layout, actions),
-        Call::Load { to, from, at } => load(zone, *to, *from, *at),
-        Call::Store { into, at, from } => store(alloc, zone, *into, *at, *from),
-        Call::Put { into, at, number } => Ok(put(zone, *into, *at, *number)),
-        Call::Get { from, at } => Ok(get(zone, *from, *at)),
-        Call::Copy { to, from } => Ok(copy(zone, *to, *from)),
-        Call::DropReg { reg } => Ok(drop_reg(zone, *reg)),
-        Call::SetRoot { root, from } => set_root(alloc, zone, *root, *from),
-        Call::GetRoot { to, root } => get_root(zone, *to, *root),
-        Call::Stats => Ok(Reply::Stats(stats(zone))),
-        Call::Retain { reg } => retain(alloc, zone, *reg),
-        Call::Release { reg } => Ok(release(zone, *reg)),
-        Call::Count { reg } => Ok(count(zone, *reg)),
-        Call::Take { to, id } => take(zone, *to, *id),
-        Call::SetAssoc { object, key, value } => set_assoc(alloc, zone, *object, *key, *value),
-        Call::GetAssoc { to, object, key } => get_assoc(zone, *to, *object, *key),
-        Call::SetWeak { loc, from } => set_weak(alloc, zone, *loc, *from),
-        Call::ReadWeak { to, loc } => read_weak(zone, *to, *loc),
-        _ => unreachable!(),
+    lines.iter().any(|line| line.thread == thread)
+}
+
+/// The thread goes behind the others where it is asked for something.
+fn add_asked(threads: &mut Vec<ThreadNo>, lines: &[Line], thread: ThreadNo) -> Result<(), NoMemory>
+    ensures { OnOk result (threads.new.items ≡ threads.old.items ++ filter (is_asked (requests lines.now)) (thread ∷ [])) }
+{
+    if has_line(lines, thread) {
+        threads.push(thread)?;
     }
+    Ok(())
+}
+
+/// The threads that are asked for something, ascending. O(lines).
+fn threads_of(alloc: Global, lines: &[Line]) -> Result<Vec<ThreadNo>, NoMemory>
+    ensures { IfOk result (λ threads. threads.items ≡ asked_threads (requests lines.now)) }
+{
+    let mut threads = Vec::new(alloc);
+    for n in 1..MOST_THREADS + 1 {
+        let Some(thread) = ThreadNo::new(n) else {
+            unreachable!();
+        };
+        add_asked(&mut threads, lines, thread)?;
+    }
+    Ok(threads)
 }
 
 /// The call of a line.
-fn call_of(line: &Line) -> &Call
-    requires { IsBuilt line.now.act }
-    ensures call { line.now.act ≡ Act.Call result.now }
+fn call_of(act: &Act) -> &Call
+    requires { IsBuilt act.now }
+    ensures call { act.now ≡ Act.Call result.now }
     ensures built { IsBuiltCall result.now }
 {
-    match &line.act {
+    match act {
         Act::Call(call) => call,
         Act::Collect(_) => unreachable!(),
     }
 }
 
-/// The entry of a call that the thread makes.
-fn entry(alloc: Global, zone: &mut SoloZone, call: &Call) -> Result<Entry, NoMemory>
-    requires built { IsBuiltCall call.now }
-    requires real { IsReal zone.old }
-    ensures ok { IfOk result (λ e. (e.thread ≡ zone.old.thread) × (e.call ≡ call.now) × Plays zone.old zone.new e.call e.reply) }
-    ensures thread { zone.new.thread ≡ zone.old.thread }
-{
-    let copy = call.try_copy(alloc)?;
-    let reply = step(alloc, zone, call)?;
-    Ok(Entry {
-        thread: zone.thread,
-        call: copy,
-        reply,
-    })
-}
-
-/// The entry of the thread's leave, and the statistics after it.
-fn last_entry(alloc: Global, zone: &SoloZone) -> Result<(Entry, Stats), NoMemory>
-    ensures { IfOk result (λ end. (end.0.thread ≡ zone.now.thread) × (end.0.call ≡ call.Leave) × EndsBy zone.now end.0.reply end.1) }
-{
-    let (reply, stats) = leave(alloc, zone)?;
-    let entry = Entry {
-        thread: zone.thread,
-        call: Call::Leave,
-        reply,
-    };
-    Ok((entry, stats))
-}
-
-/// The history of the lines of a zone's thread, and then of its leave. O(n log n) for n lines.
-fn play_all(alloc: Global, zone: &mut SoloZone, lines: &[Line]) -> Result<Recording, NoMemory>
-    requires opened { StandsFor zone.old (opening zone.old.options) }
-    requires built { AllBuilt lines.now }
-    ensures { IfOk result (λ r. IsHistoryOfOne zone.old.options zone.old.thread (map (λ line. line.act) lines.now) r.entries.items r.stats) }
-{
-    let mut entries = Vec::new(alloc);
-    for line in lines {
-        let entry = entry(alloc, zone, call_of(line))?;
-        let Ok(()) = entries.push(entry) else {
-            return Err(NoMemory);
-        };
-    }
-    let (last, stats) = last_entry(alloc, zone)?;
-    let Ok(()) = entries.push(last) else {
-        return Err(NoMemory);
-    };
-    Ok(Recording { entries, stats })
-}
-
-/// Lets a zone go. One exit of one function drops it, since a drop is written out down to each table.
-fn end(_zone: SoloZone) {}
-
-/// The history of a thread's lines, and then of its leave. O(n log n) for n lines.
-fn play_thread(
+/// One line is played: the thread makes the call.
+fn play_line(
     alloc: Global,
-    options: Options,
-    thread: ThreadNo,
+    world: &mut World,
     lines: &[Line],
-) -> Result<Recording, NoMemory>
-    requires options { IsValid options }
+    thread: ThreadNo,
+    act: &Act,
+) -> Result<(), NoMemory>
+    requires built { IsBuilt act.now }
+    requires asked { is_asked (requests lines.now) thread ≡ true }
+    requires running { CanPlay world.old (requests lines.now) }
+    ensures turn { OnOk result (PlaysLine world.old world.new (thread, act.now)) }
+    ensures proper { IsProper (thread, act.now) }
+    ensures running { OnOk result (CanPlay world.new (requests lines.now)) }
+    ensures options { OnOk result (world.new.options ≡ world.old.options) }
+{
+    // a thread's number is in its range
+    let _number = thread.get();
+    world.step(alloc, thread, call_of(act))?;
+    Ok(())
+}
+
+/// Plays the lines in their order.
+fn play_lines(alloc: Global, world: &mut World, lines: &[Line]) -> Result<(), NoMemory>
     requires built { AllBuilt lines.now }
-    ensures { IfOk result (λ r. IsHistoryOfOne options thread (map (λ line. line.act) lines.now) r.entries.items r.stats) }
+    requires opened { SoFar [] (seen world.old) }
+    requires running { CanPlay world.old (requests lines.now) }
+    ensures so_far { OnOk result (SoFar (requests lines.now) (seen world.new)) }
+    ensures proper { OnOk result (All IsProper (requests lines.now)) }
+    ensures running { OnOk result (CanPlay world.new (requests lines.now)) }
+    ensures options { OnOk result (world.new.options ≡ world.old.options) }
 {
-    let mut zone = SoloZone::new(alloc, options, thread)?;
-    let recording = play_all(alloc, &mut zone, lines);
-    end(zone);
-    recording
-}
-
-/// The empty history.
-fn nothing(alloc: Global) -> Recording
-    ensures { (result.entries.items ≡ []) × (result.stats ≡ no_stats) }
-{
-    Recording {
-        entries: Vec::new(alloc),
-        stats: Stats {
-            blocks: 0,
-            quanta: 0,
-            retained: 0,
-            weak: 0,
-            assocs: 0,
-        },
+    for line in lines {
+        play_line(alloc, world, lines, line.thread, &line.act)?;
     }
+    Ok(())
 }
 
-/// The history of a script of one thread. O(n log n) for n lines.
+/// Plays the lines, and then the ends; the statistics of the end.
+fn play_all(alloc: Global, world: &mut World, lines: &[Line]) -> Result<Stats, NoMemory>
+    requires built { AllBuilt lines.now }
+    requires opened { SoFar [] (seen world.old) }
+    requires running { CanPlay world.old (requests lines.now) }
+    ensures play { IfOk result (λ stats. IsPlayOf world.new.options (requests lines.now) world.new.journal stats) }
+    ensures options { OnOk result (world.new.options ≡ world.old.options) }
+    ensures proper { OnOk result (All IsProper (requests lines.now)) }
+{
+    play_lines(alloc, world, lines)?;
+    world.end(alloc)
+}
+
+/// The history of a script, whose entries stand in the order of `play`. O(n log n) for n lines.
 pub fn play(alloc: Global, script: &Script) -> Result<Recording, NoMemory>
     requires options { IsValid script.now.options }
-    requires one_thread { OneThread script.now.lines }
     requires built { AllBuilt script.now.lines }
-    ensures { IfOk result (λ p. IsHistoryOf script.now.options (requests_of script.now) p.entries.items p.stats) }
+    ensures play { IfOk result (λ p. IsPlayOf script.now.options (requests_of script.now) p.entries.items p.stats) }
+    ensures history { IfOk result (λ p. IsHistoryOf script.now.options (requests_of script.now) p.entries.items p.stats) }
 {
     let lines = script.lines.as_slice();
-    match lines {
-        [] => Ok(nothing(alloc)),
-        [first, ..] => play_thread(alloc, script.options, first.thread, lines),
+    let threads = threads_of(alloc, lines)?;
+    let mut world = World::new(alloc, &threads, script.options)?;
+    let played = play_all(alloc, &mut world, lines);
+    let entries = world.into_journal().into_vec();
+    match played {
+        Ok(stats) => Ok(Recording { entries, stats }),
+        Err(err) => Err(err),
     }
 }

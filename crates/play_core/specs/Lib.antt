@@ -1,0 +1,5 @@
+pub mod Worlds
+pub mod Opening
+pub mod Turning
+pub mod Inside
+pub mod Playing

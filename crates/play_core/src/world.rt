@@ -1,0 +1,203 @@
+//! The world.
+ghost use Rattle.std.specs.Prelude.{◌≡◌, ◌<◌, ◌==◌, ◌∷◌, ◌++◌, ◌↔◌, [], ℕ, List, Some, None, MatchOption, true, false, map, position, slice_get, length, IfOk, OnOk, OnErr, IsTrue};
+ghost use Rattle.az_base.specs.OptionRanges.{IsValid};
+ghost use Rattle.std.specs.List.{list_any};
+ghost use Rattle.zone_model.specs.Bare.{bare_entry};
+ghost use Rattle.zone_model.specs.History.{Ends, Legal, is_cycle_step};
+ghost use Rattle.zone_model.specs.Phases.{May};
+ghost use Rattle.zone_model.specs.State.{State};
+ghost use Rattle.zone_model.specs.Stats.{stats_of};
+ghost use Rattle.play_order.specs.Playing.{IsTold};
+ghost use Rattle.play_core.specs.Worlds.{Ascending, EachOnce, threads_in, local_of, waits_of, all_waiting, seen, is_running, Steps, Stops};
+ghost use Rattle.play_core.specs.Opening.{AreNew, opening_seen};
+ghost use Rattle.play_core.specs.Playing.{Turns, ends_among, ends_of, EndStops};
+
+use crate::turns::turn;
+use az_base::{NoMemory, Options, ThreadNo};
+use local_set::Local;
+use std::alloc::Global;
+use std::marker::Model;
+use zone_escape::Core;
+use zone_history::Journal;
+use zone_model::{Call, Entry, Reply, Stats};
+
+/// The heap and the journal, and what each thread has for itself.
+#[derive(Drop)]
+pub struct World {
+    core: Core,
+    // in ascending order of the threads
+    locals: Vec<Local>,
+}
+
+impl Model for World {
+    ghost use Rattle.play_core.specs.Worlds.{WorldShown};
+
+    ghost Value = { WorldShown };
+
+    ghost view = { λ w. record { options = w.core.heap.options; journal = w.core.journal.entries; locals = w.locals.items } };
+
+    ghost use Rattle.play_core.specs.Inside.{IsWorld};
+
+    ghost invariant = { IsWorld };
+}
+
+/// A set for each of the threads, with nothing in it.
+fn sets(alloc: Global, threads: &[ThreadNo], options: Options) -> Result<Vec<Local>, NoMemory>
+    requires { IsValid options }
+    ensures { IfOk result (λ locals. AreNew options threads.now locals.items) }
+{
+    let mut locals = Vec::with_capacity(alloc, threads.len())?;
+    for thread in threads {
+        locals.push_reserved(Local::new(alloc, *thread, options));
+    }
+    Ok(locals)
+}
+
+/// The place of the thread's set.
+fn place_of(locals: &[Local], thread: ThreadNo) -> Option<usize>
+    ensures { result ≡ position (λ l. l.thread == thread) locals.now }
+{
+    locals.iter().position(|local| local.thread() == thread)
+}
+
+impl World {
+    /// A world in which nothing has happened. The threads are ascending, and there may be none. O(threads).
+    pub fn new(alloc: Global, threads: &[ThreadNo], options: Options) -> Result<World, NoMemory>
+        requires options { IsValid options }
+        requires ascending { Ascending threads.now }
+        ensures threads { IfOk result (λ w. threads_in w.locals ≡ threads.now) }
+        ensures running { IfOk result (λ w. (t : ℕ) → is_running w t ≡ list_any (λ u. u == t) threads.now) }
+        ensures seen { IfOk result (λ w. seen w ≡ opening_seen options) }
+    {
+        let locals = sets(alloc, threads, options)?;
+        let core = Core::new(alloc, options)?;
+        Ok(World { core, locals })
+    }
+
+    /// The thread's own set.
+    fn local(&self, thread: ThreadNo) -> Option<&Local>
+        ensures { MatchOption result (local_of self.now thread ≡ None) (λ l. local_of self.now thread ≡ Some l.now) }
+    {
+        let at = place_of(&self.locals, thread)?;
+        Some(&self.locals[at])
+    }
+
+    /// Whether the thread is there and hasn't left. O(threads).
+    pub fn is_running(&self, thread: ThreadNo) -> bool
+        ensures { result ≡ is_running self.now thread }
+    {
+        match self.local(thread) {
+            Some(local) => !local.has_ended(),
+            None => false,
+        }
+    }
+
+    /// Whether the thread may make the call: it is there, hasn't left, and its own cycle stands so. O(threads).
+    pub fn may(&self, thread: ThreadNo, call: &Call) -> bool
+        ensures { (z : State) → Ends self.now.options self.now.journal z → IsTrue result ↔ (IsTrue (is_running self.now thread) × May z thread call.now) }
+    {
+        // the core is that of a state
+        let _options = self.core.options();
+        match self.local(thread) {
+            Some(local) => !local.has_ended() && zone_escape::may(local, &self.core, call),
+            None => false,
+        }
+    }
+
+    /// The thread makes the call. NoMemory leaves all as it was, or what waited of the thread was published and nothing else
+    /// has happened. O(threads) beside the call, and what it publishes.
+    pub fn step(&mut self, alloc: Global, thread: ThreadNo, call: &Call) -> Result<Reply, NoMemory>
+        requires running { is_running self.old thread ≡ true }
+        requires built { is_cycle_step call.now ≡ false }
+        ensures told { IsTold (seen self.old) thread }
+        ensures ok { IfOk result (λ reply. Steps self.old self.new thread call.now reply) }
+        ensures err { OnErr result (Stops (seen self.old) (seen self.new) thread) }
+        ensures threads { threads_in self.new.locals ≡ threads_in self.old.locals }
+    {
+        let pending = self.core.options().pending;
+        let Some(at) = place_of(&self.locals, thread) else {
+            unreachable!();
+        };
+        turn(alloc, pending, &mut self.locals[at], &mut self.core, call)
+    }
+
+    /// What was published, in its order. Followed by what waits of threads, each of them once and in any order, it is a
+    /// legal history; and the part of each thread is what its own entries make. O(1).
+    pub fn journal(&self) -> &[Entry]
+        ensures entries { map bare_entry result.now ≡ self.now.journal }
+        ensures legal { (ts : List ℕ) → EachOnce ts → Legal self.now.options (self.now.journal ++ all_waiting self.now ts) }
+        ensures told { (t : ℕ) → IsTrue (is_running self.now t) → IsTold (seen self.now) t }
+    {
+        self.core.entries()
+    }
+
+    /// What waits of the thread, the oldest first; nothing where it isn't there. O(threads).
+    pub fn waiting(&self, thread: ThreadNo) -> &[Entry]
+        ensures { map bare_entry result.now ≡ waits_of self.now thread }
+    {
+        match self.local(thread) {
+            Some(local) => local.pending(),
+            None => &[],
+        }
+    }
+
+    /// The statistics of the zone as published. O(1).
+    pub fn stats(&self) -> Stats
+        ensures stats { (z : State) → Ends self.now.options self.now.journal z → result ≡ stats_of z }
+        ensures legal { Legal self.now.options self.now.journal }
+    {
+        self.core.stats()
+    }
+
+    /// How many threads have a set. O(1).
+    fn count(&self) -> usize
+        ensures { result ≡ length self.now.locals }
+    {
+        self.locals.len()
+    }
+
+    /// The thread of the set at this place. O(1).
+    fn thread_at(&self, at: usize) -> ThreadNo
+        requires { at < length self.now.locals }
+        ensures thread { slice_get (threads_in self.now.locals) at ≡ Some result }
+        ensures ascending { Ascending (threads_in self.now.locals) }
+    {
+        self.locals[at].thread()
+    }
+
+    /// The thread leaves, where it is there and hasn't left.
+    fn leave(&mut self, alloc: Global, thread: ThreadNo) -> Result<(), NoMemory>
+        ensures ok { OnOk result (Turns (seen self.old) (ends_among self.old (thread ∷ [])) (seen self.new)) }
+        ensures err { OnErr result (Stops (seen self.old) (seen self.new) thread) }
+        ensures others { OnOk result ((u : ℕ) → (thread == u) ≡ false → local_of self.new u ≡ local_of self.old u) }
+        ensures threads { threads_in self.new.locals ≡ threads_in self.old.locals }
+    {
+        if self.is_running(thread) {
+            self.step(alloc, thread, &Call::Leave)?;
+        }
+        Ok(())
+    }
+
+    /// Each thread that hasn't left leaves, in ascending number; the statistics of the end. Where memory is wanting, those
+    /// that left before stay left, and what waited of the next one may have been published. O(what it publishes, blocks).
+    pub fn end(&mut self, alloc: Global) -> Result<Stats, NoMemory>
+        ensures ok { OnOk result (Turns (seen self.old) (ends_of self.old) (seen self.new)) }
+        ensures stats { IfOk result (λ stats. (z : State) → Ends self.new.options self.new.journal z → stats ≡ stats_of z) }
+        ensures legal { OnOk result (Legal self.new.options self.new.journal) }
+        ensures err { OnErr result (EndStops self.old self.new) }
+    {
+        for at in 0..self.count() {
+            let thread = self.thread_at(at);
+            self.leave(alloc, thread)?;
+        }
+        Ok(self.stats())
+    }
+
+    /// The journal; all else is let go. O(blocks).
+    pub fn into_journal(self) -> Journal
+        ensures entries { result.entries ≡ self.journal }
+        ensures legal { Legal self.options self.journal }
+    {
+        self.core.into_journal()
+    }
+}
