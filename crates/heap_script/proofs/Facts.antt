@@ -1,5 +1,5 @@
 -- What is known of a script
-use Rattle.std.proofs.Common.{◌≡◌, ℕ, ◌≤◌, Bool, true, false, List, [], ◌∷◌, Option, Some, None, refl, sym, ap, subst, ◌∙◌, arith}
+use Rattle.std.proofs.Common.{◌≡◌, ℕ, ◌≤◌, Bool, true, false, List, [], ◌∷◌, sym, ap, subst, ◌∙◌, arith}
 use Rattle.std.proofs.lemmas.Bool.{and_parts}
 use Rattle.std.proofs.lemmas.List.Elements.{All-nil, All-cons}
 use Rattle.az_base.specs.declared.options.Options.{Options}
@@ -22,28 +22,22 @@ use Rattle.heap_script.specs.declared.setting.OptionName.TheVariants as option
 use Rattle.heap_script.specs.declared.setting.Setting.{Setting}
 use Rattle.heap_script.specs.Built.{is_built_kind, is_built, is_built_kind_or_none, begins_built, is_built_before, most_actions, Holds}
 use Rattle.heap_script.specs.Settings.{least, largest, setting_to, with_setting}
-use Rattle.heap_script.specs.Lines.{LineAt, SettingAt, IsEntry, thread_after, AreEntries}
-use Rattle.heap_script.specs.Scripts.{with_entry, options_after, calls_of, IsScript, AllOf, OneThread, IsBuilt, AllBuilt}
+use Rattle.heap_script.specs.Lines.{LineAt, SettingAt, IsEntry, called_after, AreEntries}
+use Rattle.heap_script.specs.Scripts.{with_entry, options_after, calls_of, IsScript, AllThreads, IsThere, IsBuilt, AllBuilt, CanBePlayed}
 
--- the call lines from here on are of this thread
-all_of : (t : ℕ) (text : List (List ℕ)) (entries : List Entry) → AreEntries (Some t) text entries → AllOf t (calls_of entries)
-all_of t [] [] h = All-nil (λ l. l.thread ≡ t)
-all_of t [] (e ∷ entries) h = absurd h
-all_of t (line ∷ text) [] h = absurd h
-all_of t (line ∷ text) (entry.Nothing ∷ entries) h = all_of t text entries h.1
-all_of t (line ∷ text) (entry.Set set ∷ entries) h = all_of t text entries h.1
-all_of t (line ∷ text) (entry.Call call ∷ entries) h = All-cons (λ l. l.thread ≡ t) call (calls_of entries) h.0.1.same (all_of t text entries h.1)
+-- each call line is of a thread that there is
+threads_of : (called : Bool) (text : List (List ℕ)) (entries : List Entry) → AreEntries called text entries → AllThreads (calls_of entries)
+threads_of called [] [] h = All-nil IsThere
+threads_of called [] (e ∷ entries) h = absurd h
+threads_of called (line ∷ text) [] h = absurd h
+threads_of called (line ∷ text) (entry.Nothing ∷ entries) h = threads_of (called_after called entry.Nothing) text entries h.1
+threads_of called (line ∷ text) (entry.Set set ∷ entries) h = threads_of (called_after called (entry.Set set)) text entries h.1
+threads_of called (line ∷ text) (entry.Call call ∷ entries) h =
+    let number = h.0.1.thread in
+    All-cons IsThere call (calls_of entries) (number.low_enough, number.high_enough) (threads_of (called_after called (entry.Call call)) text entries h.1)
 
-one_of : (text : List (List ℕ)) (entries : List Entry) → AreEntries None text entries → OneThread (calls_of entries)
-one_of [] [] h = tt
-one_of [] (e ∷ entries) h = absurd h
-one_of (line ∷ text) [] h = absurd h
-one_of (line ∷ text) (entry.Nothing ∷ entries) h = one_of text entries h.1
-one_of (line ∷ text) (entry.Set set ∷ entries) h = one_of text entries h.1
-one_of (line ∷ text) (entry.Call call ∷ entries) h = All-cons (λ l. l.thread ≡ call.thread) call (calls_of entries) refl (all_of call.thread text entries h.1)
-
-pub one_thread : (bytes : List ℕ) (script : Script) → IsScript bytes script → OneThread script.lines
-one_thread bytes script h = subst OneThread (sym h.lines) (one_of _ h.entries h.said.says)
+all_threads : (bytes : List ℕ) (script : Script) → IsScript bytes script → AllThreads script.lines
+all_threads bytes script h = subst AllThreads (sym h.lines) (threads_of false _ h.entries h.said.says)
 
 -- a kind of collection that may stand after `collect` is built
 holds : (b : Bool) → b ≡ true → Holds b
@@ -83,20 +77,20 @@ act_of_built kinds names.SetWeak (loc, (from, end)) words left is h = tt
 act_of_built kinds names.ReadWeak (to, (loc, end)) words left is h = tt
 act_of_built kinds names.Stats end words left is h = tt
 
-line_built : (kinds : CollectNamesAreRead) → (only : Option ℕ) (words : List (List ℕ)) (line : Line) (left : List (List ℕ)) → LineAt only words line left → IsBuilt line.act
-line_built kinds only words line left h = subst IsBuilt (sym h.asks.asked) (act_of_built kinds h.name h.asks.said h.others left h.built h.asks.arguments)
+line_built : (kinds : CollectNamesAreRead) → (words : List (List ℕ)) (line : Line) (left : List (List ℕ)) → LineAt words line left → IsBuilt line.act
+line_built kinds words line left h = subst IsBuilt (sym h.asks.asked) (act_of_built kinds h.name h.asks.said h.others left h.built h.asks.arguments)
 
-built_of : (kinds : CollectNamesAreRead) → (only : Option ℕ) (text : List (List ℕ)) (entries : List Entry) → AreEntries only text entries → AllBuilt (calls_of entries)
-built_of kinds only [] [] h = All-nil (λ l. IsBuilt l.act)
-built_of kinds only [] (e ∷ entries) h = absurd h
-built_of kinds only (line ∷ text) [] h = absurd h
-built_of kinds only (line ∷ text) (entry.Nothing ∷ entries) h = built_of kinds (thread_after only entry.Nothing) text entries h.1
-built_of kinds only (line ∷ text) (entry.Set set ∷ entries) h = built_of kinds (thread_after only (entry.Set set)) text entries h.1
-built_of kinds only (line ∷ text) (entry.Call call ∷ entries) h =
-    All-cons (λ l. IsBuilt l.act) call (calls_of entries) (line_built kinds only (words_of line) call [] h.0.1) (built_of kinds (thread_after only (entry.Call call)) text entries h.1)
+built_of : (kinds : CollectNamesAreRead) → (called : Bool) (text : List (List ℕ)) (entries : List Entry) → AreEntries called text entries → AllBuilt (calls_of entries)
+built_of kinds called [] [] h = All-nil (λ l. IsBuilt l.act)
+built_of kinds called [] (e ∷ entries) h = absurd h
+built_of kinds called (line ∷ text) [] h = absurd h
+built_of kinds called (line ∷ text) (entry.Nothing ∷ entries) h = built_of kinds (called_after called entry.Nothing) text entries h.1
+built_of kinds called (line ∷ text) (entry.Set set ∷ entries) h = built_of kinds (called_after called (entry.Set set)) text entries h.1
+built_of kinds called (line ∷ text) (entry.Call call ∷ entries) h =
+    All-cons (λ l. IsBuilt l.act) call (calls_of entries) (line_built kinds (words_of line) call [] h.0.1) (built_of kinds (called_after called (entry.Call call)) text entries h.1)
 
-pub all_built : (kinds : CollectNamesAreRead) → (bytes : List ℕ) (script : Script) → IsScript bytes script → AllBuilt script.lines
-all_built kinds bytes script h = subst AllBuilt (sym h.lines) (built_of kinds None _ h.entries h.said.says)
+all_built : (kinds : CollectNamesAreRead) → (bytes : List ℕ) (script : Script) → IsScript bytes script → AllBuilt script.lines
+all_built kinds bytes script h = subst AllBuilt (sym h.lines) (built_of kinds false _ h.entries h.said.says)
 
 -- a number in its range keeps options valid
 set_valid : (name : OptionName) (n : ℕ) (o : Options) → least name ≤ n → n ≤ largest name → IsValid o → IsValid (with_setting o (setting_to name n))
@@ -109,20 +103,23 @@ set_valid option.Pending n o l m h = record { heap = h.heap; «local» = h.«loc
 setting_valid : (words : List (List ℕ)) (set : Setting) (left : List (List ℕ)) (o : Options) → SettingAt words set left → IsValid o → IsValid (with_setting o set)
 setting_valid words set left o h valid = subst (λ (s : Setting). IsValid (with_setting o s)) (sym h.5) (set_valid h.0 h.2 o h.4.low_enough h.4.high_enough valid)
 
-entry_valid : (only : Option ℕ) (words : List (List ℕ)) (e : Entry) (o : Options) → IsEntry only words e → IsValid o → IsValid (with_entry o e)
-entry_valid only words entry.Nothing o h valid = valid
-entry_valid only words (entry.Set set) o h valid = setting_valid h.1 set [] o h.3 valid
-entry_valid only words (entry.Call line) o h valid = valid
+entry_valid : (called : Bool) (words : List (List ℕ)) (e : Entry) (o : Options) → IsEntry called words e → IsValid o → IsValid (with_entry o e)
+entry_valid called words entry.Nothing o h valid = valid
+entry_valid called words (entry.Set set) o h valid = setting_valid h.1 set [] o h.3 valid
+entry_valid called words (entry.Call line) o h valid = valid
 
 -- valid options stay valid
-valid_of : (only : Option ℕ) (text : List (List ℕ)) (entries : List Entry) (o : Options) → AreEntries only text entries → IsValid o → IsValid (options_after o entries)
-valid_of only [] [] o h valid = valid
-valid_of only [] (e ∷ entries) o h valid = absurd h
-valid_of only (line ∷ text) [] o h valid = absurd h
-valid_of only (line ∷ text) (e ∷ entries) o h valid = valid_of (thread_after only e) text entries (with_entry o e) h.1 (entry_valid only (words_of line) e o h.0 valid)
+valid_of : (called : Bool) (text : List (List ℕ)) (entries : List Entry) (o : Options) → AreEntries called text entries → IsValid o → IsValid (options_after o entries)
+valid_of called [] [] o h valid = valid
+valid_of called [] (e ∷ entries) o h valid = absurd h
+valid_of called (line ∷ text) [] o h valid = absurd h
+valid_of called (line ∷ text) (e ∷ entries) o h valid = valid_of (called_after called e) text entries (with_entry o e) h.1 (entry_valid called (words_of line) e o h.0 valid)
 
 usual_valid : IsValid usual_options
 usual_valid = record { heap = (omega arith, omega arith); «local» = omega arith; serials = (omega arith, omega arith); counts = (omega arith, omega arith); pending = (omega arith, omega arith) }
 
-pub valid_options : (bytes : List ℕ) (script : Script) → IsScript bytes script → IsValid script.options
-valid_options bytes script h = subst IsValid (sym h.options) (valid_of None _ h.entries usual_options h.said.says usual_valid)
+valid_options : (bytes : List ℕ) (script : Script) → IsScript bytes script → IsValid script.options
+valid_options bytes script h = subst IsValid (sym h.options) (valid_of false _ h.entries usual_options h.said.says usual_valid)
+
+pub can_be_played : (kinds : CollectNamesAreRead) → (bytes : List ℕ) (script : Script) → IsScript bytes script → CanBePlayed script
+can_be_played kinds bytes script h = record { options = valid_options bytes script h; threads = all_threads bytes script h; built = all_built kinds bytes script h }

@@ -1,6 +1,5 @@
 -- What is read is a call line of the grammar, and each call line of the grammar is read.
 use Rattle.std.proofs.Common.{true, ◌≡◌, ℕ, List, [], ◌∷◌, Option, Some, None, Ok, refl, sym, ap, ◌∙◌, subst}
-use Rattle.std.proofs.lemmas.Bool.{eq-eqb}
 use Rattle.az_words.specs.Laws.{NumbersAreRead}
 use Rattle.call_words.specs.declared.names.CallName.{CallName}
 use Rattle.call_words.specs.Names.{name_text, name_of}
@@ -10,10 +9,9 @@ use Rattle.call_words.specs.Reading.Calls.{next_as, act_at}
 use Rattle.heap_script.specs.declared.cause.Cause.TheVariants.{NoThread, NoCall, WrongArgument}
 use Rattle.heap_script.specs.declared.line.Line.{Line}
 use Rattle.heap_script.specs.Built.{is_built_before, most_actions}
-use Rattle.heap_script.specs.Lines.{IsOnly, LineAt, IsLine}
-use Rattle.heap_script.specs.Reading.Scripts.{or_cause, no_more, built_by, next_built, same_thread, line_at, line_of}
+use Rattle.heap_script.specs.Lines.{LineAt, IsLine}
+use Rattle.heap_script.specs.Reading.Scripts.{or_cause, no_more, built_by, next_built, line_at, line_of}
 use Rattle.heap_script.proofs.Steps.{chosen, or_ok, bind_ok, ok_same, some_same, next_some, whole_ok}
-use Rattle.heap_script.proofs.EntrySteps.{same_only}
 
 -- a call that is built
 built_some : (o : Option (CallName × List (List ℕ))) (x : CallName × List (List ℕ)) → built_by o ≡ Some x → (o ≡ Some x) × (is_built_before x.0 x.1 ≡ true)
@@ -33,25 +31,15 @@ pub built_from : (names : NamesAreRead) → (name : CallName) (others : List (Li
 unfolding next_built next_as
 built_from names name others is = rw ((names (name_text name) name).1 refl, is) refl
 
--- the thread of a line is the only one
-pub only_ok : (only : Option ℕ) (t : ℕ) (x : Unit {0}) → same_thread only t ≡ Ok x → IsOnly only t
-only_ok None t x e = tt
-only_ok (Some u) t x e = same_only u t x e
-
-only_from : (only : Option ℕ) (t : ℕ) → IsOnly only t → same_thread only t ≡ Ok tt
-only_from None t h = refl
-only_from (Some u) t h = rw (eq-eqb u t (sym h)) refl
-
-pub line_at_ok : (numbers : NumbersAreRead) → (names : NamesAreRead) → (arguments : ArgumentsAreRead) → (only : Option ℕ) (words : List (List ℕ)) (x : Line × List (List ℕ)) → line_at only words ≡ Ok x → LineAt only words x.0 x.1
+pub line_at_ok : (numbers : NumbersAreRead) → (names : NamesAreRead) → (arguments : ArgumentsAreRead) → (words : List (List ℕ)) (x : Line × List (List ℕ)) → line_at words ≡ Ok x → LineAt words x.0 x.1
 unfolding line_at thread_of
-line_at_ok numbers names arguments only words x e =
+line_at_ok numbers names arguments words x e =
     let a = bind_ok (or_cause NoThread (next_as thread_of words)) _ x e in
     let t = next_some thread_of words a.0 (or_ok NoThread (next_as thread_of words) a.0 a.1) in
     let b = bind_ok (or_cause NoCall (next_built a.0.1)) _ x a.2 in
     let n = built_ok names a.0.1 b.0 (or_ok NoCall (next_built a.0.1) b.0 b.1) in
-    let c = bind_ok (same_thread only a.0.0) _ x b.2 in
-    let d = bind_ok (or_cause WrongArgument (act_at most_actions b.0.0 b.0.1)) _ x c.2 in
-    let P : Line × List (List ℕ) → Type 0 = λ y. LineAt only words y.0 y.1 in
+    let d = bind_ok (or_cause WrongArgument (act_at most_actions b.0.0 b.0.1)) _ x b.2 in
+    let P : Line × List (List ℕ) → Type 0 = λ y. LineAt words y.0 y.1 in
     let start : P (record { thread = a.0.0; act = d.0.0 }, d.0.1) =
     record {
       first = t.0;
@@ -60,26 +48,24 @@ line_at_ok numbers names arguments only words x e =
       spelled = t.1 ∙ ap (λ ws. t.0 ∷ ws) n.0;
       thread = (numbers 1 16 t.0 a.0.0).0 t.2;
       built = n.1;
-      same = only_ok only a.0.0 c.0 c.1;
       asks = (arguments most_actions b.0.0 b.0.1 d.0.0 d.0.1).0 (or_ok WrongArgument (act_at most_actions b.0.0 b.0.1) d.0 d.1);
     } in
     subst P (ok_same _ x d.2) start
 
-pub line_at_from : (numbers : NumbersAreRead) → (names : NamesAreRead) → (arguments : ArgumentsAreRead) → (only : Option ℕ) (words : List (List ℕ)) (line : Line) (left : List (List ℕ)) → LineAt only words line left → line_at only words ≡ Ok (line, left)
+pub line_at_from : (numbers : NumbersAreRead) → (names : NamesAreRead) → (arguments : ArgumentsAreRead) → (words : List (List ℕ)) (line : Line) (left : List (List ℕ)) → LineAt words line left → line_at words ≡ Ok (line, left)
 unfolding line_at thread_of next_as
-line_at_from numbers names arguments only words line left h =
+line_at_from numbers names arguments words line left h =
     rw (
       h.spelled,
       (numbers 1 16 h.first line.thread).1 h.thread,
       built_from names h.name h.others h.built,
-      only_from only line.thread h.same,
       (arguments most_actions h.name h.others line.act left).1 h.asks,
     ) refl
 
-pub line_ok : (numbers : NumbersAreRead) → (names : NamesAreRead) → (arguments : ArgumentsAreRead) → (only : Option ℕ) (words : List (List ℕ)) (line : Line) → line_of only words ≡ Ok line → IsLine only words line
+pub line_ok : (numbers : NumbersAreRead) → (names : NamesAreRead) → (arguments : ArgumentsAreRead) → (words : List (List ℕ)) (line : Line) → line_of words ≡ Ok line → IsLine words line
 unfolding line_of
-line_ok numbers names arguments only words line e = line_at_ok numbers names arguments only words (line, []) (whole_ok (line_at only words) line e)
+line_ok numbers names arguments words line e = line_at_ok numbers names arguments words (line, []) (whole_ok (line_at words) line e)
 
-pub line_from : (numbers : NumbersAreRead) → (names : NamesAreRead) → (arguments : ArgumentsAreRead) → (only : Option ℕ) (words : List (List ℕ)) (line : Line) → IsLine only words line → line_of only words ≡ Ok line
+pub line_from : (numbers : NumbersAreRead) → (names : NamesAreRead) → (arguments : ArgumentsAreRead) → (words : List (List ℕ)) (line : Line) → IsLine words line → line_of words ≡ Ok line
 unfolding line_of no_more
-line_from numbers names arguments only words line h = rw (line_at_from numbers names arguments only words line [] h) refl
+line_from numbers names arguments words line h = rw (line_at_from numbers names arguments words line [] h) refl

@@ -1,5 +1,5 @@
 -- Reading lines one after the other, as a loop does
-use Rattle.std.proofs.Common.{◌≡◌, ℕ, ◌+◌, List, [], ◌∷◌, ◌++◌, Option, Result, Ok, Err, refl, sym, ap, ◌∙◌, append_assoc, append-nil}
+use Rattle.std.proofs.Common.{◌≡◌, ℕ, ◌+◌, Bool, List, [], ◌∷◌, ◌++◌, Result, Ok, Err, refl, sym, ap, ◌∙◌, append_assoc, append-nil}
 use Rattle.az_base.specs.declared.options.Options.{Options}
 use Rattle.az_base.specs.OptionRanges.{usual_options}
 use Rattle.az_words.specs.Lines.{lines_of}
@@ -11,9 +11,9 @@ use Rattle.heap_script.specs.declared.cause.Cause.{Cause}
 use Rattle.heap_script.specs.declared.cause.LineErr.{LineErr}
 use Rattle.heap_script.specs.declared.cause.LineErr.TheVariants as errors
 use Rattle.heap_script.specs.Causes.{err_at}
-use Rattle.heap_script.specs.Lines.{thread_after}
+use Rattle.heap_script.specs.Lines.{called_after}
 use Rattle.heap_script.specs.Refusals.{Refusal}
-use Rattle.heap_script.specs.Scripts.{with_entry, options_after, onto_calls, calls_of, first_thread}
+use Rattle.heap_script.specs.Scripts.{with_entry, options_after, onto_calls, calls_of, is_called}
 use Rattle.heap_script.specs.Reading.Scripts.{◌>>=◌, Gives, entry_of, entries_from, script_of, IsRead}
 
 -- a script of these options and these lines, and then what is still read
@@ -25,20 +25,20 @@ with_front o front read = read >>= λ entries. Ok (going_on o front entries)
 
 -- what was read so far, and what is read of the rest
 unfoldable pub total : Options → List Line → ℕ → List (List ℕ) → Result Script Refusal
-total o front n lines = with_front o front (entries_from n (first_thread front) lines)
+total o front n lines = with_front o front (entries_from n (is_called front) lines)
 
 -- the call lines with one line more
 abbrev pub with_call : List Line → Entry → List Line
 with_call front (entry.Call line) = front ++ line ∷ []
 with_call front e = front
 
-thread_grows : (front : List Line) (e : Entry) → thread_after (first_thread front) e ≡ first_thread (with_call front e)
-thread_grows [] entry.Nothing = refl
-thread_grows [] (entry.Set set) = refl
-thread_grows [] (entry.Call line) = refl
-thread_grows (x ∷ front) entry.Nothing = refl
-thread_grows (x ∷ front) (entry.Set set) = refl
-thread_grows (x ∷ front) (entry.Call line) = refl
+called_grows : (front : List Line) (e : Entry) → called_after (is_called front) e ≡ is_called (with_call front e)
+called_grows [] entry.Nothing = refl
+called_grows [] (entry.Set set) = refl
+called_grows [] (entry.Call line) = refl
+called_grows (x ∷ front) entry.Nothing = refl
+called_grows (x ∷ front) (entry.Set set) = refl
+called_grows (x ∷ front) (entry.Call line) = refl
 
 lines_grow : (front : List Line) (e : Entry) (lines : List Line) → front ++ onto_calls e lines ≡ with_call front e ++ lines
 lines_grow front entry.Nothing lines = refl
@@ -53,12 +53,12 @@ regroup : (o : Options) (front : List Line) (e : Entry) (read : Result (List Ent
 regroup o front e (Ok entries) = ap {B = Result Script Refusal} Ok (grown o front e entries)
 regroup o front e (Err r) = refl
 
-says : (o : Options) (front : List Line) (n : ℕ) (line : List ℕ) (lines : List (List ℕ)) (e : Entry) → entry_of n (first_thread front) line ≡ Ok e
+says : (o : Options) (front : List Line) (n : ℕ) (line : List ℕ) (lines : List (List ℕ)) (e : Entry) → entry_of n (is_called front) line ≡ Ok e
     → total o front n (line ∷ lines) ≡ total (with_entry o e) (with_call front e) (n + 1) lines
 unfolding total entries_from
-says o front n line lines e is = rw (is, thread_grows front e) (regroup o front e (entries_from (n + 1) (first_thread (with_call front e)) lines))
+says o front n line lines e is = rw (is, called_grows front e) (regroup o front e (entries_from (n + 1) (is_called (with_call front e)) lines))
 
-stops : (o : Options) (front : List Line) (n : ℕ) (line : List ℕ) (lines : List (List ℕ)) (cause : Cause) → entry_of n (first_thread front) line ≡ Err cause
+stops : (o : Options) (front : List Line) (n : ℕ) (line : List ℕ) (lines : List (List ℕ)) (cause : Cause) → entry_of n (is_called front) line ≡ Err cause
     → total o front n (line ∷ lines) ≡ Err (record { cause = cause; line = n })
 unfolding total entries_from
 stops o front n line lines cause e = rw e refl
@@ -74,11 +74,11 @@ at_start bytes = refl
 
 -- the same at the rest of the bytes, whose first line was cut off
 pub says_at : (o : Options) (front : List Line) (n : ℕ) (lines here : List (List ℕ)) (line : List ℕ) (e : Entry) (whole : Result Script Refusal) → here ≡ line ∷ lines
-    → entry_of n (first_thread front) line ≡ Ok e → total o front n here ≡ whole → total (with_entry o e) (with_call front e) (n + 1) lines ≡ whole
+    → entry_of n (is_called front) line ≡ Ok e → total o front n here ≡ whole → total (with_entry o e) (with_call front e) (n + 1) lines ≡ whole
 says_at o front n lines here line e whole cut is so_far = sym (says o front n line lines e is) ∙ ap (total o front n) (sym cut) ∙ so_far
 
 pub stops_at : (o : Options) (front : List Line) (n : ℕ) (lines here : List (List ℕ)) (line : List ℕ) (cause : Cause) (whole : Result Script Refusal) → here ≡ line ∷ lines
-    → entry_of n (first_thread front) line ≡ Err cause → total o front n here ≡ whole → whole ≡ Err (record { cause = cause; line = n })
+    → entry_of n (is_called front) line ≡ Err cause → total o front n here ≡ whole → whole ≡ Err (record { cause = cause; line = n })
 stops_at o front n lines here line cause whole cut e so_far = sym so_far ∙ ap (total o front n) cut ∙ stops o front n line lines cause e
 
 pub ends_at : (o : Options) (front : List Line) (n : ℕ) (here : List (List ℕ)) (whole : Result Script Refusal) → here ≡ [] → total o front n here ≡ whole
@@ -86,8 +86,8 @@ pub ends_at : (o : Options) (front : List Line) (n : ℕ) (here : List (List ℕ
 ends_at o front n here whole cut so_far = sym so_far ∙ ap (total o front n) cut ∙ is_done o front n
 
 -- what the error of a line says of the whole
-pub errs_at : (o : Options) (front : List Line) (n : ℕ) (lines here : List (List ℕ)) (line : List ℕ) (err : LineErr) (only : Option ℕ) (bytes : List ℕ) → here ≡ line ∷ lines
-    → first_thread front ≡ only → Gives {X = Entry} (Err err) (entry_of n only line) → total o front n here ≡ script_of bytes → IsRead bytes (Err (err_at n err))
-errs_at o front n lines here line (errors.Cause cause) only bytes cut is e so_far =
+pub errs_at : (o : Options) (front : List Line) (n : ℕ) (lines here : List (List ℕ)) (line : List ℕ) (err : LineErr) (called : Bool) (bytes : List ℕ) → here ≡ line ∷ lines
+    → is_called front ≡ called → Gives {X = Entry} (Err err) (entry_of n called line) → total o front n here ≡ script_of bytes → IsRead bytes (Err (err_at n err))
+errs_at o front n lines here line (errors.Cause cause) called bytes cut is e so_far =
     stops_at o front n lines here line cause (script_of bytes) cut (ap (λ t. entry_of n t line) is ∙ e) so_far
-errs_at o front n lines here line errors.NoMemory only bytes cut is e so_far = tt
+errs_at o front n lines here line errors.NoMemory called bytes cut is e so_far = tt

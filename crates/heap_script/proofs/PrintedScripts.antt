@@ -1,5 +1,5 @@
 -- A printed script is read as the same script
-use Rattle.std.proofs.Common.{◌≡◌, ℕ, ◌<◌, ◌≤◌, ◌^◌, Bool, true, false, cond, eqb, List, [], ◌∷◌, ◌++◌, length, map, Option, Some, None, refl, sym, ap, ◌∙◌, subst, arith, append_assoc, append-nil, codes}
+use Rattle.std.proofs.Common.{◌≡◌, ℕ, ◌<◌, ◌≤◌, ◌^◌, Bool, true, false, cond, eqb, List, [], ◌∷◌, ◌++◌, length, map, refl, sym, ap, ◌∙◌, subst, arith, append_assoc, append-nil, codes}
 use Rattle.std.specs.List.{flat_map, list_all, AllByRecursion, All}
 use Rattle.std.specs.Char.{is_ascii_digit}
 use Rattle.std.specs.Fmt.{decimal}
@@ -19,8 +19,8 @@ use Rattle.heap_script.specs.declared.script.Script.{Script}
 use Rattle.heap_script.specs.declared.setting.OptionName.{OptionName}
 use Rattle.heap_script.specs.declared.setting.OptionName.TheVariants as option
 use Rattle.heap_script.specs.Settings.{option_text, least, largest, setting_to, with_setting}
-use Rattle.heap_script.specs.Lines.{IsFit, is_skipped, IsOnly, IsLine, IsEntry, AreEntries, SayLines}
-use Rattle.heap_script.specs.Scripts.{options_after, calls_of, IsScript, OneThread, IsBuilt}
+use Rattle.heap_script.specs.Lines.{IsFit, is_skipped, IsLine, IsEntry, AreEntries, SayLines}
+use Rattle.heap_script.specs.Scripts.{options_after, calls_of, IsScript, IsBuilt}
 use Rattle.heap_script.specs.Ranges.{LineFits}
 use Rattle.heap_script.specs.Printed.{spaced, line_words, act_words, option_lines, options_lines, script_lines, line_text, script_text, HasActions, KeepsLimits}
 use Rattle.heap_script.proofs.PlainWords.{IsPlain, ArePlain, LinesArePlain, words_are_cut, spaced_text, lines_are_cut, lines_together}
@@ -28,8 +28,8 @@ use Rattle.heap_script.proofs.PrintedNumbers.{decimal_in, decimal_plain, decimal
 use Rattle.heap_script.proofs.PrintedActs.{Asked, asked}
 
 -- lines of words say these entries
-abbrev Say : Option ℕ → List (List (List ℕ)) → List Entry → Type 0
-Say only lines entries = AreEntries only (map spaced lines) entries
+abbrev Say : Bool → List (List (List ℕ)) → List Entry → Type 0
+Say called lines entries = AreEntries called (map spaced lines) entries
 
 -- call lines
 
@@ -49,30 +49,25 @@ record Printed (line : Line) : Type 0 where
 line_plain : (line : Line) → Printed line → ArePlain (line_words line)
 line_plain line h = (decimal_plain line.thread (omega (arith, h.fits.1)), h.act.plain)
 
-call_entry : (only : Option ℕ) (line : Line) → Printed line → IsOnly only line.thread → IsEntry only (words_of (spaced (line_words line))) (entry.Call line)
-call_entry only line h same =
+call_entry : (called : Bool) (line : Line) → Printed line → IsEntry called (words_of (spaced (line_words line))) (entry.Call line)
+call_entry called line h =
     let number : line.thread < 2 ^ 64 = omega (arith, h.fits.1) in
     let plain = decimal_plain line.thread number in
-    let at : IsLine only (line_words line) line = record {
+    let at : IsLine (line_words line) line = record {
       first = decimal line.thread;
       name = h.act.name;
       others = h.act.others;
       spelled = ap (λ words. decimal line.thread ∷ words) h.act.spelled;
       thread = decimal_in 1 16 line.thread h.fits.0 h.fits.1 (omega arith);
       built = h.act.built;
-      same = same;
       asks = h.act.asks;
     } in
-    subst (λ words. IsEntry only words (entry.Call line)) (sym (words_are_cut (line_words line) (line_plain line h)))
+    subst (λ words. IsEntry called words (entry.Call line)) (sym (words_are_cut (line_words line) (line_plain line h)))
     (digit_first (decimal line.thread) (act_words line.act) plain.some (decimal_digits line.thread number), at)
 
-calls_after : (t : ℕ) (lines : List Line) → AllByRecursion Printed lines → AllByRecursion (λ line. line.thread ≡ t) lines → Say (Some t) (map line_words lines) (map entry.Call lines)
-calls_after t [] h same = tt
-calls_after t (line ∷ lines) h same = (call_entry (Some t) line h.0 same.0, calls_after t lines h.1 same.1)
-
-calls_say : (lines : List Line) → AllByRecursion Printed lines → OneThread lines → Say None (map line_words lines) (map entry.Call lines)
-calls_say [] h same = tt
-calls_say (line ∷ lines) h same = (call_entry None line h.0 tt, calls_after line.thread lines h.1 (recursion_from_All (λ (l : Line). l.thread ≡ line.thread) (line ∷ lines) same).1)
+calls_say : (called : Bool) (lines : List Line) → AllByRecursion Printed lines → Say called (map line_words lines) (map entry.Call lines)
+calls_say called [] h = tt
+calls_say called (line ∷ lines) h = (call_entry called line h.0, calls_say true lines h.1)
 
 calls_plain : (lines : List Line) → AllByRecursion Printed lines → LinesArePlain (map line_words lines)
 calls_plain [] h = tt
@@ -118,16 +113,16 @@ words_plain name n range =
     let large = largest_fits name in
     (record { some = omega arith; visible = refl }, (text_plain name, (decimal_plain n (omega (arith, range.1)), tt)))
 
-option_entry : (name : OptionName) (n : ℕ) → InOption name n → IsEntry None (words_of (spaced (option_words name n))) (entry.Set (setting_to name n))
+option_entry : (name : OptionName) (n : ℕ) → InOption name n → IsEntry false (words_of (spaced (option_words name n))) (entry.Set (setting_to name n))
 unfolding option_words
 option_entry name n range =
-    subst (λ words. IsEntry None words (entry.Set (setting_to name n))) (sym (words_are_cut (option_words name n) (words_plain name n range)))
+    subst (λ words. IsEntry false words (entry.Set (setting_to name n))) (sym (words_are_cut (option_words name n) (words_plain name n range)))
     (refl, _, refl, (name, decimal n, n, refl, decimal_in (least name) (largest name) n range.0 range.1 (largest_fits name), refl))
 
-option_says : (name : OptionName) (usual n : ℕ) (lines : List (List (List ℕ))) (entries : List Entry) → InOption name n → Say None lines entries → Say None (option_lines name usual n ++ lines) (option_entries name usual n ++ entries)
+option_says : (name : OptionName) (usual n : ℕ) (lines : List (List (List ℕ))) (entries : List Entry) → InOption name n → Say false lines entries → Say false (option_lines name usual n ++ lines) (option_entries name usual n ++ entries)
 unfolding option_lines option_words
 option_says name usual n lines entries range said =
-    elim (eqb n usual) as (λ b. Say None (cond b [] (option_words name n ∷ []) ++ lines) (cond b [] (entry.Set (setting_to name n) ∷ []) ++ entries)) [ true ↦ said | false ↦ (option_entry name n range, said) ]
+    elim (eqb n usual) as (λ b. Say false (cond b [] (option_words name n ∷ []) ++ lines) (cond b [] (entry.Set (setting_to name n) ∷ []) ++ entries)) [ true ↦ said | false ↦ (option_entry name n range, said) ]
 
 option_plain : (name : OptionName) (usual n : ℕ) → InOption name n → LinesArePlain (option_lines name usual n)
 unfolding option_lines option_words
@@ -165,7 +160,7 @@ before_is : (o : Options) (lines : List (List (List ℕ))) → options_lines o +
 unfolding options_lines
 before_is o lines = simp append_assoc
 
-options_say : (o : Options) (lines : List (List (List ℕ))) (entries : List Entry) → IsValid o → Say None lines entries → Say None (lines_before o lines) (entries_before o entries)
+options_say : (o : Options) (lines : List (List (List ℕ))) (entries : List Entry) → IsValid o → Say false lines entries → Say false (lines_before o lines) (entries_before o entries)
 options_say o lines entries v said =
     option_says option.Heap _ o.heap_quanta _ _ v.heap
     (option_says option.Local _ o.local_quanta _ _ (omega arith, v.local)
@@ -217,7 +212,7 @@ printed_is script keeps =
     let none = before_is script.options [] ∙ refl in
     let plain : LinesArePlain (script_lines script) = lines_together (options_lines script.options) (map line_words script.lines) (subst LinesArePlain (sym none ∙ append-nil (options_lines script.options)) (options_plain script.options keeps.options)) (calls_plain script.lines printed) in
     let cut : lines_of (script_text script) ≡ map spaced (script_lines script) = ap lines_of (text_is script) ∙ lines_are_cut (script_lines script) plain in
-    let said : Say None (script_lines script) (entries_before script.options calls) = subst (λ lines. Say None lines (entries_before script.options calls)) (sym before) (options_say script.options (map line_words script.lines) calls keeps.options (calls_say script.lines printed keeps.one_thread)) in
+    let said : Say false (script_lines script) (entries_before script.options calls) = subst (λ lines. Say false lines (entries_before script.options calls)) (sym before) (options_say script.options (map line_words script.lines) calls keeps.options (calls_say false script.lines printed)) in
     let fit : All IsFit (map spaced (script_lines script)) = All-map IsFit spaced (script_lines script) (All-from_recursion (λ words. IsFit (spaced words)) (script_lines script) (lines_fit (script_lines script) plain (recursion_from_All (λ words. length (spaced words) ≤ 8192) (script_lines script) keeps.short))) in
     record {
       entries = entries_before script.options calls;

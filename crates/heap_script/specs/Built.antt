@@ -8,7 +8,7 @@ use Rattle.call_words.specs.Names.{collect_of}
 
 -- the kinds of collection
 abbrev pub is_built_kind : CollectName → Bool
-is_built_kind kind.Local = false
+is_built_kind kind.Local = true
 is_built_kind kind.Young = false
 is_built_kind kind.Full = false
 

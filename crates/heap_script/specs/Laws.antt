@@ -1,21 +1,21 @@
 -- What is read of a script, said apart from how
-use Rattle.std.specs.Prelude.{◌≡◌, ◌↔◌, ◌⊎◌, ℕ, List, [], Option, Ok, Err}
+use Rattle.std.specs.Prelude.{◌≡◌, ◌↔◌, ◌⊎◌, ℕ, List, [], Ok, Err}
 use Rattle.heap_script.specs.declared.cause.Cause.{Cause}
 use Rattle.heap_script.specs.declared.line.Line.{Line}
 use Rattle.heap_script.specs.declared.script.Script.{Script}
 use Rattle.heap_script.specs.declared.setting.Setting.{Setting}
 use Rattle.heap_script.specs.Lines.{IsLine, SettingAt}
 use Rattle.heap_script.specs.Refusals.{LineCause, SettingCause, Refusal}
-use Rattle.heap_script.specs.Scripts.{IsScript, IsRefused, IsOnlyScript, IsOnlyRefusal}
+use Rattle.heap_script.specs.Scripts.{IsScript, IsRefused, IsOnlyScript, IsOnlyRefusal, CanBePlayed}
 use Rattle.heap_script.specs.Reading.Scripts.{line_of, setting_of, script_of}
 
 -- exactly the call lines of the grammar are read, each as what it says
 abbrev pub LinesAreRead : Type 0
-LinesAreRead = (only : Option ℕ) (words : List (List ℕ)) (line : Line) → (line_of only words ≡ Ok line) ↔ IsLine only words line
+LinesAreRead = (words : List (List ℕ)) (line : Line) → (line_of words ≡ Ok line) ↔ IsLine words line
 
 -- a call line is refused exactly where it lacks what the grammar wants, with that cause
 abbrev pub LinesAreRefused : Type 0
-LinesAreRefused = (only : Option ℕ) (words : List (List ℕ)) (cause : Cause) → (line_of only words ≡ Err cause) ↔ LineCause only words cause
+LinesAreRefused = (words : List (List ℕ)) (cause : Cause) → (line_of words ≡ Err cause) ↔ LineCause words cause
 
 -- after option exactly an option and a number in its range are read
 abbrev pub OptionsAreRead : Type 0
@@ -36,3 +36,7 @@ ScriptsAreRefused = (bytes : List ℕ) (refusal : Refusal) → (script_of bytes 
 -- each text is one script, or is refused for one reason, and never both
 abbrev pub TextsHaveOneReading : Type 0
 TextsHaveOneReading = (bytes : List ℕ) → ((script : Script) × IsOnlyScript bytes script) ⊎ ((refusal : Refusal) × IsOnlyRefusal bytes refusal)
+
+-- a script can be played
+abbrev pub ScriptsCanBePlayed : Type 0
+ScriptsCanBePlayed = (bytes : List ℕ) (script : Script) → IsScript bytes script → CanBePlayed script

@@ -1,5 +1,5 @@
 -- What a line of a script is
-use Rattle.std.specs.Prelude.{◌≡◌, ◌≤◌, ◌==◌, ℕ, Bool, true, false, List, [], ◌∷◌, length, All, Option, Some, None, codes}
+use Rattle.std.specs.Prelude.{◌≡◌, ◌≤◌, ◌==◌, ℕ, Bool, true, false, List, [], ◌∷◌, length, All, codes}
 use Rattle.std.specs.Str.{IsUtf8}
 use Rattle.az_base.specs.declared.numbers.TheConstants.{MOST_THREADS}
 use Rattle.az_words.specs.Words.{words_of}
@@ -26,51 +26,44 @@ is_skipped [] = true
 is_skipped ([] ∷ words) = false
 is_skipped ((c ∷ word) ∷ words) = c == 35
 
--- the thread of the call lines before, where there are some
-abbrev pub IsOnly : Option ℕ → ℕ → Type 0
-IsOnly None t = Unit {0}
-IsOnly (Some only) t = t ≡ only
-
--- a call line, after call lines of this thread: a thread, a call that is built, and its arguments; these words are left
-pub record LineAt (only : Option ℕ) (words : List (List ℕ)) (line : Line) (left : List (List ℕ)) : Type 0 where
+-- a call line: a thread, a call that is built, and its arguments; these words are left
+pub record LineAt (words : List (List ℕ)) (line : Line) (left : List (List ℕ)) : Type 0 where
   pub first : List ℕ
   pub name : CallName
   pub others : List (List ℕ)
   pub spelled : words ≡ first ∷ name_text name ∷ others
   pub thread : IsNumberIn 1 MOST_THREADS first line.thread
   pub built : is_built_before name others ≡ true
-  pub same : IsOnly only line.thread
   pub asks : AsksAt most_actions name others line.act left
 
 -- a call line, and no more
-abbrev pub IsLine : Option ℕ → List (List ℕ) → Line → Type 0
-IsLine only words line = LineAt only words line []
+abbrev pub IsLine : List (List ℕ) → Line → Type 0
+IsLine words line = LineAt words line []
 
 -- an option, a number in its range, and these words are left
 abbrev pub SettingAt : List (List ℕ) → Setting → List (List ℕ) → Type 0
 SettingAt words set left =
     (name : OptionName) × (number : List ℕ) × (n : ℕ) × (words ≡ option_text name ∷ number ∷ left) × IsNumberIn (least name) (largest name) number n × (set ≡ setting_to name n)
 
--- what the words of a line say, after call lines of this thread; an option line stands before the first call line alone
-abbrev pub IsEntry : Option ℕ → List (List ℕ) → Entry → Type 0
-IsEntry only words entry.Nothing = is_skipped words ≡ true
-IsEntry only words (entry.Set set) = (only ≡ None) × (others : List (List ℕ)) × (words ≡ codes "option" ∷ others) × SettingAt others set []
-IsEntry only words (entry.Call line) = (is_skipped words ≡ false) × IsLine only words line
+-- what the words of a line say, where a call line came before or none did; an option line stands before the first call line alone
+abbrev pub IsEntry : Bool → List (List ℕ) → Entry → Type 0
+IsEntry called words entry.Nothing = is_skipped words ≡ true
+IsEntry called words (entry.Set set) = (called ≡ false) × (others : List (List ℕ)) × (words ≡ codes "option" ∷ others) × SettingAt others set []
+IsEntry called words (entry.Call line) = (is_skipped words ≡ false) × IsLine words line
 
--- the only thread after a line
-abbrev pub thread_after : Option ℕ → Entry → Option ℕ
-thread_after (Some t) e = Some t
-thread_after None (entry.Call line) = Some line.thread
-thread_after None e = None
+-- whether a call line came, once this line has come too
+abbrev pub called_after : Bool → Entry → Bool
+called_after called (entry.Call line) = true
+called_after called e = called
 
--- the lines with these words say what stands at their place, after call lines of this thread
-abbrev pub AreEntries : Option ℕ → List (List ℕ) → List Entry → Type 0
-AreEntries only [] [] = Unit {0}
-AreEntries only (line ∷ more) (e ∷ entries) = IsEntry only (words_of line) e × AreEntries (thread_after only e) more entries
-AreEntries only _ _ = ⊥
+-- the lines with these words say what stands at their place, where a call line came before or none did
+abbrev pub AreEntries : Bool → List (List ℕ) → List Entry → Type 0
+AreEntries called [] [] = Unit {0}
+AreEntries called (line ∷ more) (e ∷ entries) = IsEntry called (words_of line) e × AreEntries (called_after called e) more entries
+AreEntries called _ _ = ⊥
 
 -- the lines of a text say this, line by line
 pub record SayLines (text : List (List ℕ)) (entries : List Entry) : Type 0 where
   pub few : length text ≤ 65536
   pub fit : All IsFit text
-  pub says : AreEntries None text entries
+  pub says : AreEntries false text entries

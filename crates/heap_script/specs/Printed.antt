@@ -24,7 +24,7 @@ use Rattle.heap_script.specs.declared.setting.OptionName.TheVariants as option
 use Rattle.heap_script.specs.Built.{most_actions}
 use Rattle.heap_script.specs.Settings.{option_text}
 use Rattle.heap_script.specs.Ranges.{LineFits}
-use Rattle.heap_script.specs.Scripts.{IsScript, OneThread, IsBuilt}
+use Rattle.heap_script.specs.Scripts.{IsScript, IsBuilt}
 
 -- words, each behind one space
 abbrev pub behind_spaces : List (List ℕ) → List ℕ
@@ -133,7 +133,6 @@ pub record KeepsLimits (script : Script) : Type 0 where
   pub numbers : All LineFits script.lines
   pub built : All (λ line. IsBuilt line.act) script.lines
   pub actions : All (λ line. HasActions line.act) script.lines
-  pub one_thread : OneThread script.lines
   pub few : length (script_lines script) ≤ 65536
   pub short : All (λ words. length (spaced words) ≤ 8192) (script_lines script)
 

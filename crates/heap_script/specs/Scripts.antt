@@ -1,8 +1,9 @@
 -- What a script is, what refuses a text that is none, and what is known of a script
-use Rattle.std.specs.Prelude.{◌≡◌, ◌+◌, ℕ, List, [], ◌∷◌, ◌++◌, length, All, Option, Some, None, Result, Ok, Err}
+use Rattle.std.specs.Prelude.{◌≡◌, ◌≤◌, ◌+◌, ℕ, Bool, true, false, List, [], ◌∷◌, ◌++◌, length, All, Result, Ok, Err}
 use Rattle.az_base.specs.declared.action.Mode.TheVariants as mode
+use Rattle.az_base.specs.declared.numbers.TheConstants.{MOST_THREADS}
 use Rattle.az_base.specs.declared.options.Options.{Options}
-use Rattle.az_base.specs.OptionRanges.{usual_options}
+use Rattle.az_base.specs.OptionRanges.{usual_options, IsValid}
 use Rattle.az_words.specs.Lines.{lines_of}
 use Rattle.zone_model.specs.declared.act.Act.{Act}
 use Rattle.zone_model.specs.declared.act.Act.TheVariants as act
@@ -46,10 +47,10 @@ pub record IsScript (bytes : List ℕ) (script : Script) : Type 0 where
   pub options : script.options ≡ options_after usual_options entries
   pub lines : script.lines ≡ calls_of entries
 
--- the thread of the first of these lines
-abbrev pub first_thread : List Line → Option ℕ
-first_thread [] = None
-first_thread (line ∷ lines) = Some line.thread
+-- a call line came
+abbrev pub is_called : List Line → Bool
+is_called [] = false
+is_called (line ∷ lines) = true
 
 -- a line has this cause, and the lines before it have none
 pub record IsRefused (bytes : List ℕ) (refusal : Refusal) : Type 0 where
@@ -60,7 +61,7 @@ pub record IsRefused (bytes : List ℕ) (refusal : Refusal) : Type 0 where
   pub cut : lines_of bytes ≡ before ++ line ∷ after
   pub number : refusal.line ≡ length before + 1
   pub said : SayLines before entries
-  pub cause : HasCause refusal.line (first_thread (calls_of entries)) line refusal.cause
+  pub cause : HasCause refusal.line (is_called (calls_of entries)) line refusal.cause
 
 -- the bytes are this script alone, and aren't refused
 pub record IsOnlyScript (bytes : List ℕ) (script : Script) : Type 0 where
@@ -80,14 +81,13 @@ Parses bytes (Ok script) = IsScript bytes script
 Parses bytes (Err (errors.Refused cause line)) = IsRefused bytes (record { cause = cause; line = line })
 Parses bytes (Err errors.NoMemory) = Unit {0}
 
--- each line is of this thread
-abbrev pub AllOf : ℕ → List Line → Type 0
-AllOf t lines = All (λ line. line.thread ≡ t) lines
+-- the line is of a thread that there is
+abbrev pub IsThere : Line → Type 0
+IsThere line = (1 ≤ line.thread) × (line.thread ≤ MOST_THREADS)
 
--- all lines are of the first one's thread
-abbrev pub OneThread : List Line → Type 0
-OneThread [] = Unit {0}
-OneThread (line ∷ lines) = AllOf line.thread (line ∷ lines)
+-- each line is of a thread that there is
+abbrev pub AllThreads : List Line → Type 0
+AllThreads lines = All IsThere lines
 
 -- what the names that are built can ask for
 abbrev pub IsBuilt : Act → Type 0
@@ -117,3 +117,9 @@ IsBuilt _ = ⊥
 -- each line asks for what is built
 abbrev pub AllBuilt : List Line → Type 0
 AllBuilt lines = All (λ line. IsBuilt line.act) lines
+
+-- the options are valid, and each line asks a thread that there is for what is built
+pub record CanBePlayed (script : Script) : Type 0 where
+  pub options : IsValid script.options
+  pub threads : AllThreads script.lines
+  pub built : AllBuilt script.lines

@@ -14,7 +14,8 @@ fn is_built_kind(kind: CollectName) -> bool
     ensures { result ≡ is_built_kind kind }
 {
     match kind {
-        CollectName::Local | CollectName::Young | CollectName::Full => false,
+        CollectName::Local => true,
+        CollectName::Young | CollectName::Full => false,
     }
 }
 

@@ -21,7 +21,7 @@ pub enum Cause {
     NoThread,
     /// The second word is missing, or names no call; in an option line, no option.
     NoCall,
-    /// An argument is missing, or hasn't its form or range; or the thread isn't that of the first call line.
+    /// An argument is missing, or hasn't its form or range.
     WrongArgument,
     /// All arguments are right, and a further word follows.
     TooManyArguments,

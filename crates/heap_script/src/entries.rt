@@ -4,13 +4,12 @@ ghost use Rattle.std.specs.Str.{IsUtf8, is_utf8};
 ghost use Rattle.az_words.specs.Words.{words_of};
 ghost use Rattle.heap_script.specs.Lines.{is_skipped};
 ghost use Rattle.heap_script.specs.Refusals.{after_option};
-ghost use Rattle.heap_script.specs.Reading.Scripts.{Gives, no_more, same_thread, line_of, setting_of, entry_by, entry_of};
+ghost use Rattle.heap_script.specs.Reading.Scripts.{Gives, no_more, line_of, setting_of, entry_by, entry_of};
 
 use crate::built::{MOST_ACTIONS, next_built};
 use crate::cause::{Cause, LineErr};
 use crate::line::Line;
 use crate::setting::{OptionName, Setting, next_option};
-use az_base::ThreadNo;
 use az_words::{Words, is_text, is_word, next_word};
 use call_words::{arguments, next_number, next_thread, next_wide_number};
 use std::alloc::Global;
@@ -40,31 +39,14 @@ fn no_more(words: &mut Words) -> Result<(), Cause>
     }
 }
 
-/// A thread is the only one so far.
-fn same_thread(only: Option<ThreadNo>, thread: ThreadNo) -> Result<(), Cause>
-    ensures { result ≡ same_thread only thread }
-{
-    match only {
-        None => Ok(()),
-        Some(only) => {
-            if only == thread {
-                Ok(())
-            } else {
-                Err(Cause::WrongArgument)
-            }
-        }
-    }
-}
-
-/// A call line, after call lines of this thread.
+/// A call line.
 #[tactic(auto, unfolding(crate::specs::Reading::Scripts::line_of, crate::specs::Reading::Scripts::line_at))]
-fn call_line(alloc: Global, only: Option<ThreadNo>, line: &[u8]) -> Result<Line, LineErr>
-    ensures { Gives result (line_of only (words_of line.now)) }
+fn call_line(alloc: Global, line: &[u8]) -> Result<Line, LineErr>
+    ensures { Gives result (line_of (words_of line.now)) }
 {
     let mut words = Words::new(line);
     let thread = next_thread(&mut words).ok_or(Cause::NoThread)?;
     let name = next_built(&mut words).ok_or(Cause::NoCall)?;
-    same_thread(only, thread)?;
     let act = arguments(alloc, name, MOST_ACTIONS, &mut words)?;
     no_more(&mut words)?;
     Ok(Line { thread, act })
@@ -101,11 +83,11 @@ fn setting(line: &[u8]) -> Result<Setting, Cause>
 
 /// What comes after `option`, where it begins the line and no call line came before.
 #[tactic(auto, unfolding(crate::specs::Refusals::after_option))]
-fn after_option<'a>(only: &Option<ThreadNo>, line: &'a [u8]) -> Option<&'a [u8]>
-    ensures some { IfSome result (λ rest. after_option only.now (words_of line.now) ≡ Some (words_of rest.now)) }
-    ensures none { IfNone result (after_option only.now (words_of line.now) ≡ None) }
+fn after_option(called: bool, line: &[u8]) -> Option<&[u8]>
+    ensures some { IfSome result (λ rest. after_option called (words_of line.now) ≡ Some (words_of rest.now)) }
+    ensures none { IfNone result (after_option called (words_of line.now) ≡ None) }
 {
-    if only.is_some() {
+    if called {
         return None;
     }
     let (first, rest) = next_word(line)?;
@@ -130,16 +112,16 @@ fn is_skipped(line: &[u8]) -> bool
 
 /// An option line where option lines may still stand, and else a call line.
 #[tactic(auto, unfolding(crate::specs::Reading::Scripts::entry_by))]
-fn option_or_call(alloc: Global, only: Option<ThreadNo>, line: &[u8]) -> Result<Entry, LineErr>
-    ensures { Gives result (entry_by only (words_of line.now) (after_option only (words_of line.now))) }
+fn option_or_call(alloc: Global, called: bool, line: &[u8]) -> Result<Entry, LineErr>
+    ensures { Gives result (entry_by (words_of line.now) (after_option called (words_of line.now))) }
 {
-    match after_option(&only, line) {
+    match after_option(called, line) {
         Some(rest) => {
             let setting = setting(rest)?;
             Ok(Entry::Set(setting))
         }
         None => {
-            let line = call_line(alloc, only, line)?;
+            let line = call_line(alloc, line)?;
             Ok(Entry::Call(line))
         }
     }
@@ -153,17 +135,17 @@ fn is_text_line(all_text: bool, line: &[u8]) -> bool
     all_text || is_text(line)
 }
 
-/// What the line of this number says, after call lines of this thread. O(bytes).
+/// What the line of this number says, where a call line came before it or none did. O(bytes).
 #[tactic(auto, unfolding(crate::specs::Reading::Scripts::entry_of))]
 pub fn read_entry(
     alloc: Global,
     number: u32,
-    only: Option<ThreadNo>,
+    called: bool,
     all_text: bool,
     line: &[u8],
 ) -> Result<Entry, LineErr>
     requires { all_text ≡ true → IsUtf8 line.now }
-    ensures says { Gives result (entry_of number only line.now) }
+    ensures says { Gives result (entry_of number called line.now) }
     ensures few { IfOk result (λ _. number ≤ 65536) }
 {
     if !is_text_line(all_text, line) {
@@ -178,5 +160,5 @@ pub fn read_entry(
     if is_skipped(line) {
         return Ok(Entry::Nothing);
     }
-    option_or_call(alloc, only, line)
+    option_or_call(alloc, called, line)
 }

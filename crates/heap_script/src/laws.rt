@@ -1,10 +1,11 @@
 //! Laws that say what is read apart from how: exactly the scripts of the grammar are read, and all else is refused at the
 //! first line that lacks what the grammar wants.
-ghost use Rattle.heap_script.specs.Laws.{LinesAreRead, LinesAreRefused, OptionsAreRead, OptionsAreRefused, ScriptsAreRead, ScriptsAreRefused, TextsHaveOneReading};
+ghost use Rattle.heap_script.specs.Laws.{LinesAreRead, LinesAreRefused, OptionsAreRead, OptionsAreRefused};
+ghost use Rattle.heap_script.specs.Laws.{ScriptsAreRead, ScriptsAreRefused, ScriptsCanBePlayed, TextsHaveOneReading};
 ghost use Rattle.heap_script.specs.Printed.{PrintedScriptsAreRead};
 
 use az_words::numbers_are_read;
-use call_words::{arguments_are_read, names_are_read};
+use call_words::{arguments_are_read, collect_names_are_read, names_are_read};
 
 /// Exactly the call lines of the grammar are read, each as what it says.
 pub fn lines_are_read()
@@ -62,6 +63,13 @@ pub fn texts_have_one_reading()
 {
     scripts_are_read();
     scripts_are_refused();
+}
+
+/// Each script has options in their ranges, and each of its lines asks a thread that there is for what is built.
+pub fn scripts_can_be_played()
+    ensures { ScriptsCanBePlayed }
+{
+    collect_names_are_read();
 }
 
 /// A printed script that keeps the limits of scripts is read as the same script.

@@ -19,7 +19,8 @@ mod setting;
 pub use cause::{Cause, ScriptErr};
 pub use laws::{
     lines_are_read, lines_are_refused, options_are_read, options_are_refused,
-    printed_scripts_are_read, scripts_are_read, scripts_are_refused, texts_have_one_reading,
+    printed_scripts_are_read, scripts_are_read, scripts_are_refused, scripts_can_be_played,
+    texts_have_one_reading,
 };
 pub use line::{Line, LineList};
 pub use printing::print;

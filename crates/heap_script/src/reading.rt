@@ -1,27 +1,23 @@
 //! Reading a script, line by line.
 ghost use Rattle.std.specs.Prelude.{◌≡◌, IfOk};
 ghost use Rattle.az_base.specs.OptionRanges.{IsValid};
-ghost use Rattle.heap_script.specs.Scripts.{first_thread, Parses, OneThread, AllBuilt};
+ghost use Rattle.heap_script.specs.Scripts.{is_called, Parses, AllThreads, AllBuilt};
 ghost use Rattle.heap_script.specs.Reading.Scripts.{IsRead};
 
 use crate::cause::ScriptErr;
 use crate::entries::{Entry, read_entry};
-use crate::laws::{scripts_are_read, scripts_are_refused};
+use crate::laws::{scripts_are_read, scripts_are_refused, scripts_can_be_played};
 use crate::line::{Line, LineList};
 use crate::script::Script;
-use az_base::{Options, ThreadNo};
+use az_base::Options;
 use az_words::{is_text, next_line};
-use call_words::collect_names_are_read;
 use std::alloc::Global;
 
-/// The thread of the first call line.
-fn first_thread(lines: &[Line]) -> Option<ThreadNo>
-    ensures { result ≡ first_thread lines.now }
+/// A call line came.
+fn is_called(lines: &[Line]) -> bool
+    ensures { result ≡ is_called lines.now }
 {
-    match lines {
-        [] => None,
-        [line, ..] => Some(line.thread),
-    }
+    !lines.is_empty()
 }
 
 /// The script that the bytes are. Refused exactly where they are none, with the first line that has a cause and the
@@ -31,12 +27,12 @@ pub fn parse(alloc: Global, bytes: &[u8]) -> Result<Script, ScriptErr>
     ensures gives { Parses bytes.now result }
     ensures reads { IsRead bytes.now result }
     ensures options { IfOk result (λ script. IsValid script.options) }
-    ensures one_thread { IfOk result (λ script. OneThread script.lines) }
+    ensures threads { IfOk result (λ script. AllThreads script.lines) }
     ensures built { IfOk result (λ script. AllBuilt script.lines) }
 {
     scripts_are_read();
     scripts_are_refused();
-    collect_names_are_read();
+    scripts_can_be_played();
     let all_text = is_text(bytes);
     let mut options = Options::usual();
     let mut lines = Vec::new(alloc);
@@ -44,7 +40,7 @@ pub fn parse(alloc: Global, bytes: &[u8]) -> Result<Script, ScriptErr>
     let mut rest = bytes;
     'lines: while let Some((line, after)) = next_line(rest) {
         number += 1;
-        match read_entry(alloc, number, first_thread(&lines), all_text, line) {
+        match read_entry(alloc, number, is_called(&lines), all_text, line) {
             Ok(Entry::Nothing) => {}
             Ok(Entry::Set(setting)) => options = setting.onto(options),
             Ok(Entry::Call(line)) => lines.push(line)?,

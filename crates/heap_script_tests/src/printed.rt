@@ -64,6 +64,29 @@ static CALLS: &[u8] = b"16 new r15 object SWPPWS keep g255 pass g0 4294967295
 16 take r0 16.4294967295
 ";
 
+/// Sixteen threads by turns, and local collections.
+static THREADS: &str = "option pending 1
+16 new r0 scanned 1
+3 new r15 scanned 1
+1 collect local
+2 stats
+4 stats
+5 stats
+15 stats
+14 stats
+13 stats
+12 stats
+11 stats
+10 stats
+9 stats
+8 stats
+7 stats
+6 stats
+3 drop r15
+3 collect local
+16 setroot g0 r0
+";
+
 /// A line of the grammar, with all calls and up to eight actions.
 fn line_of(alloc: Global, text: &[u8]) -> Option<Line> {
     let mut words = Words::new(text);
@@ -120,6 +143,11 @@ fn options_stand_once_and_in_order(rt: HostRuntime) {
     let text =
         "option heap 4\noption local 0\noption serials 1\noption pending 1\n1 new r0 scanned 2\n";
     assert!(rt; is_printed_as(rt.alloc(), script, text) == Some(true));
+}
+
+#[test]
+fn sixteen_threads_are_read_and_printed(rt: HostRuntime) {
+    assert!(rt; is_printed_as(rt.alloc(), THREADS.as_bytes(), THREADS) == Some(true));
 }
 
 #[test]

@@ -57,6 +57,8 @@ fn scripts_are_read(rt: HostRuntime) {
                 b"# one\n2 new r0 scanned 1\n\n002 new r0 scanned 1".as_slice(),
                 2,
             ),
+            (b"1 collect local".as_slice(), 1),
+            (b"16 collect\tlocal \n1 stats\n016 stats".as_slice(), 3),
         ],
     );
     assert!(rt; agree);
@@ -97,10 +99,16 @@ fn causes_stand_in_order(rt: HostRuntime) {
             (b"1 New r0 scanned 0".as_slice(), Cause::NoCall, 1),
             (b"1 # new r0 scanned 0".as_slice(), Cause::NoCall, 1),
             (b"1 collect young".as_slice(), Cause::NoCall, 1),
-            (b"1 collect".as_slice(), Cause::NoCall, 1),
             (b"1 collect full".as_slice(), Cause::NoCall, 1),
-            (b"1 collect local".as_slice(), Cause::NoCall, 1),
-            (b"1 collect weak".as_slice(), Cause::NoCall, 1),
+            (b"1 collect full local".as_slice(), Cause::NoCall, 1),
+            (b"1 collect".as_slice(), Cause::WrongArgument, 1),
+            (b"1 collect weak".as_slice(), Cause::WrongArgument, 1),
+            (b"1 collect Local".as_slice(), Cause::WrongArgument, 1),
+            (
+                b"1 collect local young".as_slice(),
+                Cause::TooManyArguments,
+                1,
+            ),
             (b"1 Retain r0".as_slice(), Cause::NoCall, 1),
             (b"1 begin young".as_slice(), Cause::NoCall, 1),
             (b"1 leave".as_slice(), Cause::NoCall, 1),
@@ -138,10 +146,16 @@ fn causes_stand_in_order(rt: HostRuntime) {
             ),
             (
                 b"1 new r0 scanned 0\n2 new r0 scanned 0 more".as_slice(),
-                Cause::WrongArgument,
+                Cause::TooManyArguments,
                 2,
             ),
             (b"1 new r0 scanned 0\n2 what".as_slice(), Cause::NoCall, 2),
+            (b"1 stats\n2 stats\n17 stats".as_slice(), Cause::NoThread, 3),
+            (
+                b"1 collect local\noption heap 1".as_slice(),
+                Cause::NoThread,
+                2,
+            ),
             (
                 b"1 new r0 scanned 0 # note".as_slice(),
                 Cause::TooManyArguments,

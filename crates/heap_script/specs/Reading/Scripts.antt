@@ -1,5 +1,5 @@
 -- What a script says, or the first cause of its first line that has one, as it is read
-use Rattle.std.specs.Prelude.{◌≡◌, ℕ, ◌+◌, List, [], ◌∷◌, length, ◌==◌, nat_lt, if◌then◌else◌, Option, Some, None, Result, Ok, Err, not}
+use Rattle.std.specs.Prelude.{◌≡◌, ℕ, ◌+◌, List, [], ◌∷◌, length, nat_lt, if◌then◌else◌, Bool, false, Option, Some, None, Result, Ok, Err, not}
 use Rattle.std.specs.Str.{is_utf8}
 use Rattle.az_base.specs.OptionRanges.{usual_options}
 use Rattle.az_words.specs.Lines.{lines_of}
@@ -25,7 +25,7 @@ use Rattle.heap_script.specs.declared.setting.OptionName.TheVariants as option
 use Rattle.heap_script.specs.declared.setting.Setting.{Setting}
 use Rattle.heap_script.specs.Built.{is_built_before, most_actions}
 use Rattle.heap_script.specs.Settings.{option_text, least, largest, setting_to}
-use Rattle.heap_script.specs.Lines.{is_skipped, thread_after}
+use Rattle.heap_script.specs.Lines.{is_skipped, called_after}
 use Rattle.heap_script.specs.Refusals.{after_option, Refusal}
 use Rattle.heap_script.specs.Scripts.{options_after, calls_of}
 
@@ -71,23 +71,17 @@ built_by (Some x) = where_built x
 unfoldable pub next_built : List (List ℕ) → Option (CallName × List (List ℕ))
 next_built words = built_by (next_as name_of words)
 
--- the thread of the first call line, where there was one, is the only one
-abbrev pub same_thread : Option ℕ → ℕ → Result (Unit {0}) Cause
-same_thread None t = Ok tt
-same_thread (Some only) t = if only == t then Ok tt else Err WrongArgument
-
--- a call line, after lines of this thread, and the words after it
-unfoldable pub line_at : Option ℕ → List (List ℕ) → Result (Line × List (List ℕ)) Cause
-line_at only words = do
+-- a call line, and the words after it
+unfoldable pub line_at : List (List ℕ) → Result (Line × List (List ℕ)) Cause
+line_at words = do
   thread ← or_cause NoThread (next_as thread_of words)
   name ← or_cause NoCall (next_built thread.1)
-  same ← same_thread only thread.0
   act ← or_cause WrongArgument (act_at most_actions name.0 name.1)
   Ok (record { thread = thread.0; act = act.0 }, act.1)
 
--- a call line, after lines of this thread
-unfoldable pub line_of : Option ℕ → List (List ℕ) → Result Line Cause
-line_of only words = whole (line_at only words)
+-- a call line, and no more
+unfoldable pub line_of : List (List ℕ) → Result Line Cause
+line_of words = whole (line_at words)
 
 -- the option that a word names
 unfoldable pub option_of : List ℕ → Option OptionName
@@ -102,33 +96,33 @@ setting_of words = do
   Ok (setting_to name.0 number.0)
 
 -- an option line where there are words after option, and else a call line
-unfoldable pub entry_by : Option ℕ → List (List ℕ) → Option (List (List ℕ)) → Result Entry Cause
-entry_by only words (Some others) = setting_of others >>= λ setting. Ok (entry.Set setting)
-entry_by only words None = line_of only words >>= λ line. Ok (entry.Call line)
+unfoldable pub entry_by : List (List ℕ) → Option (List (List ℕ)) → Result Entry Cause
+entry_by words (Some others) = setting_of others >>= λ setting. Ok (entry.Set setting)
+entry_by words None = line_of words >>= λ line. Ok (entry.Call line)
 
 -- a line that isn't refused as a whole
-abbrev pub entry_at : Option ℕ → List (List ℕ) → Result Entry Cause
-entry_at only words = if is_skipped words then Ok entry.Nothing else entry_by only words (after_option only words)
+abbrev pub entry_at : Bool → List (List ℕ) → Result Entry Cause
+entry_at called words = if is_skipped words then Ok entry.Nothing else entry_by words (after_option called words)
 
--- what the line of this number says, after lines of this thread
-unfoldable pub entry_of : ℕ → Option ℕ → List ℕ → Result Entry Cause
-entry_of n only line =
+-- what the line of this number says, where a call line came before or none did
+unfoldable pub entry_of : ℕ → Bool → List ℕ → Result Entry Cause
+entry_of n called line =
     if not (is_utf8 line) then Err NotText
     else if nat_lt 8192 (length line) then Err LineTooLong
     else if nat_lt 65536 n then Err TooManyLines
-    else entry_at only (words_of line)
+    else entry_at called (words_of line)
 
 -- a cause at this line
 abbrev pub at_line : {A : Type 0} → ℕ → Result A Cause → Result A Refusal
 at_line n (Ok x) = Ok x
 at_line n (Err c) = Err (record { cause = c; line = n })
 
--- what the lines from this number on say, after lines of this thread
-unfoldable pub entries_from : ℕ → Option ℕ → List (List ℕ) → Result (List Entry) Refusal
-entries_from n only [] = Ok []
-entries_from n only (line ∷ lines) = do
-  first ← at_line n (entry_of n only line)
-  others ← entries_from (n + 1) (thread_after only first) lines
+-- what the lines from this number on say, where a call line came before or none did
+unfoldable pub entries_from : ℕ → Bool → List (List ℕ) → Result (List Entry) Refusal
+entries_from n called [] = Ok []
+entries_from n called (line ∷ lines) = do
+  first ← at_line n (entry_of n called line)
+  others ← entries_from (n + 1) (called_after called first) lines
   Ok (first ∷ others)
 
 -- what the lines say, as a script
@@ -137,7 +131,7 @@ script_from entries = record { options = options_after usual_options entries; li
 
 -- the script that the bytes are, or why they are none
 unfoldable pub script_of : List ℕ → Result Script Refusal
-script_of bytes = entries_from 1 None (lines_of bytes) >>= λ entries. Ok (script_from entries)
+script_of bytes = entries_from 1 false (lines_of bytes) >>= λ entries. Ok (script_from entries)
 
 -- what was answered is what reading gives, unless memory ran out
 abbrev pub IsRead : List ℕ → Result Script ScriptErr → Type 0
