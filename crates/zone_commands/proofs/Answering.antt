@@ -1,5 +1,5 @@
 -- The bytes alone determine the status
-use Rattle.std.proofs.Common.{◌≡◌, ◌≤◌, ◌<◌, ◌+◌, ℕ, List, [], ◌++◌, length, Option, Some, None, Ok, Err, refl, sym, ap, ◌∙◌, append-nil, length-append, arith}
+use Rattle.std.proofs.Common.{◌≡◌, ◌≤◌, ◌+◌, ℕ, List, ◌++◌, length, Option, Some, None, Ok, Err, refl, sym, ap, ◌∙◌, append-nil, length-append, arith}
 use Rattle.std.specs.Io.KnownBytes.{Consumes}
 use Rattle.az_outside.specs.Bytes.{Takes}
 use Rattle.heap_script.specs.declared.cause.Cause.{Cause}

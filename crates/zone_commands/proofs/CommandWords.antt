@@ -1,15 +1,15 @@
 -- The words of a command, as the parse finds them
-use Rattle.std.proofs.Common.{◌≡◌, ℕ, Bool, true, false, cond, List, [], ◌∷◌, Option, Some, None, map, refl, sym, ap, ◌∙◌, codes, option_map, string_bytes}
+use Rattle.std.proofs.Common.{◌≡◌, ℕ, Bool, true, false, cond, List, [], ◌∷◌, Some, None, map, refl, ap, ◌∙◌, codes}
 use Rattle.std.specs.List.{list_any}
 use Rattle.std.specs.Str.{bytes_eq}
 use Rattle.std.proofs.lemmas.Slice.Eq.{bytes_eq-Decides}
-use Rattle.clap.specs.Words.{first_of, first_value, found_of, is_simple, matches_of, new_rule, takes, with_rule, HasMatchesOf}
+use Rattle.clap.specs.Words.{first_of, found_of, is_simple, matches_of, new_rule, takes, with_rule, HasMatchesOf}
 use Rattle.clap.specs.declared.parser.matches.ArgMatches.{ArgMatches}
 use Rattle.clap.proofs.OnLiterals.{clap_on_literals}
 use Rattle.clap.proofs.WalkLemmas.{first_value-rows}
 use Rattle.zone_commands.specs.declared.words.Command.{Command}
 use Rattle.zone_commands.specs.declared.words.Command.TheVariants as commands
-use Rattle.zone_commands.specs.CommandLine.{command_by, asked, is_dashed, unnamed, command_line, Finds}
+use Rattle.zone_commands.specs.CommandLine.{asked, is_dashed, unnamed, command_line, Finds}
 
 chosen : (b : Bool) (x y : Command) → cond b (Some x) None ≡ Some y → b ≡ true
 chosen true x y e = refl

@@ -16,6 +16,7 @@ use Rattle.zone_commands.specs.declared.status.Status.TheVariants as status
 use Rattle.zone_commands.specs.declared.status.Stop.{Stop}
 use Rattle.zone_commands.specs.declared.status.Stop.TheVariants as stops
 use Rattle.play_core.specs.Playing.{requests_of}
+use Rattle.play_order.specs.Play.{IsPlayOf}
 use Rattle.zone_history.specs.Histories.{IsHistoryOf}
 use Rattle.history_text.specs.Texts.{text_of}
 
@@ -24,13 +25,14 @@ pub record GaveAll (old new : Option (List ℕ)) (bytes : List ℕ) : Type 0 whe
   pub consumed : Consumes old new bytes
   pub end : IsAtEnd new
 
--- the bytes are a script, and the text is that of a history of it
+-- the bytes are a script, and the text is that of a history of it, in the order of a play
 pub record IsPlayed (bytes text : List ℕ) : Type 0 where
   pub script : Script
   pub history : List Entry
   pub stats : Stats
   pub parsed : IsScript bytes script
   pub played : IsHistoryOf script.options (requests_of script) history stats
+  pub ordered : IsPlayOf script.options (requests_of script) history stats
   pub spelled : text ≡ text_of script.options history stats
 
 -- all was read, at most so many bytes, and the text of a history of the script was written

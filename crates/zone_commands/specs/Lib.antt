@@ -1,3 +1,4 @@
 pub mod CommandLine
 pub mod Statuses
 pub mod Answers
+pub mod Laws

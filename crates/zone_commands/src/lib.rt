@@ -7,11 +7,13 @@
 #![tactic(auto)]
 
 mod command;
+mod laws;
 mod saying;
 mod status;
 mod top;
 mod words;
 
+pub use laws::bytes_have_one_text;
 pub use saying::say;
 pub use status::Status;
 pub use top::autozone;

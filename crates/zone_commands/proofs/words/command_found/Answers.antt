@@ -1,4 +1,4 @@
-use Rattle.std.proofs.Common.{◌≡◌, ℕ, List, [], ◌∷◌, Bool, true, None, sym, ap, ◌∙◌, codes, map, string_bytes, Global}
+use Rattle.std.proofs.Common.{◌≡◌, ℕ, List, [], ◌∷◌, true, None, sym, ap, ◌∙◌, codes, map, string_bytes, Global}
 use Rattle.std.proofs.lemmas.Bool.{true≢false}
 use Rattle.clap.specs.Words.{takes}
 use Rattle.zone_commands.specs.CommandLine.{asked, command_line}
