@@ -86,7 +86,7 @@ fn script_run(script: &[u8]) -> Invocation<'_> {
 }
 
 /// Whether the script is played, and its text is this one.
-fn is_played(rt: &HostRuntime, script: &str, text: &str) -> Result<bool, Fail> {
+pub fn is_played(rt: &HostRuntime, script: &str, text: &str) -> Result<bool, Fail> {
     let end = End {
         status: Status::Done,
         out: text,
