@@ -97,6 +97,32 @@ def weak_reads():
     return made + "".join(shown) + "".join(read)
 
 
+def turns():
+    """Sixteen threads by turns, each line of each thread in its turn: calls on what the thread alone knows, of which every
+    eighth call publishes the seven before it. A half of the blocks escapes, and the others are collected locally."""
+    calls = (
+        "new r0 scanned 1",
+        "new r1 scanned 1",
+        "store r0 0 r1",
+        "load r2 r0 0",
+        "copy r3 r2",
+        "drop r0",
+        "collect local",
+        "setroot g{thread} r1",
+    )
+    threads = range(1, 17)
+    lines = (f"{thread} {calls[n % 8]}\n".format(thread=thread) for n in range(MOST_LINES // 16) for thread in threads)
+    return "".join(lines)
+
+
+def holders():
+    """A thread that holds 10,000 escaped blocks in words of three unescaped ones, and publishes 20,000 times, every second
+    time a local call, too."""
+    made = "".join(f"1 new r{1 + block} scanned {MOST_WORDS}\n" for block in range(3))
+    held = (f"1 new r0 scanned 0\n1 setroot g0 r0\n1 store r{1 + n // MOST_WORDS} {n % MOST_WORDS} r0\n" for n in range(10_000))
+    return made + "".join(held) + "1 copy r4 r0\n1 stats\n1 stats\n" * 10_000
+
+
 CASES = {
     case.__name__: case
     for case in (
@@ -112,6 +138,8 @@ CASES = {
         keys,
         weak_moves,
         weak_reads,
+        turns,
+        holders,
     )
 }
 
