@@ -223,12 +223,11 @@ module _ (k n : CoreShown) (locals : List LocalSet) (at : ℕ) (l m : LocalSet) 
   step_err (Ok reply) err = tt
   step_err (Err e) err = subst (Stops (seen (world_of k locals)) (seen (world_of n (slice_set locals at m)))) thread (stops k n locals at l m keeps here moves core err)
 
--- so it is with each thread that runs
-pub told_running : (k : CoreShown) (locals : List LocalSet) → IsCore k → Keeps k locals → (t : ℕ) → is_running (world_of k locals) t ≡ true → IsTold (seen (world_of k locals)) t
-told_running k locals core keeps t run =
-    let r = runs (world_of k locals) t run in
-    let at = found_at t locals r.0 r.1 in
-    subst (IsTold (seen (world_of k locals))) (found_is t locals r.0 r.1) (told k locals at.0 r.0 core keeps at.1)
+-- so it is with each thread that is there
+pub told_there : (k : CoreShown) (locals : List LocalSet) → IsCore k → Keeps k locals → (t : ℕ) (l : LocalSet) → local_of (world_of k locals) t ≡ Some l → IsTold (seen (world_of k locals)) t
+told_there k locals core keeps t l found =
+    let at = found_at t locals l found in
+    subst (IsTold (seen (world_of k locals))) (found_is t locals l found) (told k locals at.0 l core keeps at.1)
 
 -- whether a thread may make a call
 pub may_of : (w : WorldShown) (k : CoreShown) (locals : List LocalSet) → world_of k locals ≡ w → IsCore k → (th : ℕ) (l : LocalSet) → local_of w th ≡ Some l → l.ended ≡ false → (c : Call) (b : Bool)

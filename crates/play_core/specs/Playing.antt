@@ -1,5 +1,5 @@
 -- How a script is played
-use Rattle.std.specs.Prelude.{◌≡◌, ◌==◌, ℕ, List, [], ◌∷◌, map, filter, take}
+use Rattle.std.specs.Prelude.{◌≡◌, ◌==◌, ℕ, List, [], ◌∷◌, map, filter, take, slice_get, Some}
 use Rattle.std.specs.List.{list_any}
 use Rattle.zone_history.specs.Histories.{Request}
 use Rattle.heap_script.specs.declared.line.Line.{Line}
@@ -35,7 +35,8 @@ ends_of w = ends_among w (threads_in w.locals)
 
 -- where memory was wanting at the end: the first of the threads have left, and what waits of the next one may have been published
 abbrev pub EndStops : WorldShown → WorldShown → Type 0
-EndStops old new = (n : ℕ) × (mid : Seen) × Turns (seen old) (ends_among old (take n (threads_in old.locals))) mid × (t : ℕ) × Stops mid (seen new) t
+EndStops old new = (n : ℕ) × (t : ℕ) × (slice_get (threads_in old.locals) n ≡ Some t)
+    × (mid : Seen) × Turns (seen old) (ends_among old (take n (threads_in old.locals))) mid × Stops mid (seen new) t
 
 -- a call that scripts can ask for
 abbrev pub IsBuiltCall : Call → Type 0

@@ -117,7 +117,8 @@ fn play_all(alloc: Global, world: &mut World, lines: &[Line]) -> Result<Stats, N
     world.end(alloc)
 }
 
-/// The history of a script, whose entries stand in the order of `play`. O(n log n) for n lines.
+/// The history of a script, whose entries stand in the order of `play`, and the statistics of its end. The cost of the calls,
+/// and O(16) for each line.
 pub fn play(alloc: Global, script: &Script) -> Result<Recording, NoMemory>
     requires options { IsValid script.now.options }
     requires built { AllBuilt script.now.lines }

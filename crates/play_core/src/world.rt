@@ -7,6 +7,7 @@ ghost use Rattle.zone_model.specs.History.{Ends, Legal, is_cycle_step};
 ghost use Rattle.zone_model.specs.Phases.{May};
 ghost use Rattle.zone_model.specs.State.{State};
 ghost use Rattle.zone_model.specs.Stats.{stats_of};
+ghost use Rattle.local_set.specs.LocalSets.{LocalSet};
 ghost use Rattle.play_order.specs.Playing.{IsTold};
 ghost use Rattle.play_core.specs.Worlds.{Ascending, EachOnce, threads_in, local_of, waits_of, all_waiting, seen, is_running, Steps, Stops};
 ghost use Rattle.play_core.specs.Opening.{AreNew, opening_seen};
@@ -114,19 +115,20 @@ impl World {
         ensures err { OnErr result (Stops (seen self.old) (seen self.new) thread) }
         ensures threads { threads_in self.new.locals ≡ threads_in self.old.locals }
     {
-        let pending = self.core.options().pending;
+        // the core is that of a state
+        let _options = self.core.options();
         let Some(at) = place_of(&self.locals, thread) else {
             unreachable!();
         };
-        turn(alloc, pending, &mut self.locals[at], &mut self.core, call)
+        turn(alloc, &mut self.locals[at], &mut self.core, call)
     }
 
     /// What was published, in its order. Followed by what waits of threads, each of them once and in any order, it is a
-    /// legal history; and the part of each thread is what its own entries make. O(1).
+    /// legal history; and the part of each thread that is there is what its own entries make. O(1).
     pub fn journal(&self) -> &[Entry]
         ensures entries { map bare_entry result.now ≡ self.now.journal }
         ensures legal { (ts : List ℕ) → EachOnce ts → Legal self.now.options (self.now.journal ++ all_waiting self.now ts) }
-        ensures told { (t : ℕ) → IsTrue (is_running self.now t) → IsTold (seen self.now) t }
+        ensures told { (t : ℕ) (l : LocalSet) → local_of self.now t ≡ Some l → IsTold (seen self.now) t }
     {
         self.core.entries()
     }

@@ -1,4 +1,4 @@
-use Rattle.std.proofs.Common.{refl}
+use Rattle.std.proofs.Common.{refl, sym, ap, ◌∙◌, slice_get}
 use Rattle.play_core.specs.Playing.{EndStops}
 use Rattle.play_core.specs.Worlds.{seen}
 use Rattle.play_core.proofs.Ending.{ended_more, still_within, on_err}
@@ -13,7 +13,7 @@ thread_at-thread-requires c =
 
 pub returns-in_err-leave-clause-err : goal.returns-in_err-leave-clause-err
 returns-in_err-leave-clause-err c =
-    on_err c.from_residual.result (EndStops c.args.self.now c.leave.new.self) (c.loop-at.at, seen c.loop-at.self, c.loop-at.invariant.turned, c.thread_at-thread.result, c.in_err-leave.ensures.err)
+    on_err c.from_residual.result (EndStops c.args.self.now c.leave.new.self) (c.loop-at.at, c.thread_at-thread.result, ap (λ ts. slice_get ts c.loop-at.at) (sym c.loop-at.invariant.threads) ∙ c.thread_at-thread.ensures.thread, seen c.loop-at.self, c.loop-at.invariant.turned, c.in_err-leave.ensures.err)
 
 pub loop-at-preserved : goal.loop-at-preserved
 loop-at-preserved c =

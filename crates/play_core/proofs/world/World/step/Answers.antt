@@ -1,4 +1,4 @@
-use Rattle.std.proofs.Common.{refl, sym, ap, subst, ◌∙◌, position}
+use Rattle.std.proofs.Common.{sym, ap, subst, ◌∙◌, position}
 use Rattle.play_core.specs.Worlds.{seen}
 use Rattle.play_order.specs.Playing.{IsTold}
 use Rattle.play_core.proofs.Sets.{is_of, threads_set}
@@ -15,7 +15,7 @@ was_at c = at_call c.self.inside.core c.self.inside.locals.items c.deref.result.
 moves : (c : goal.After-self-1) → Moves c.index_mut.result.now c.turn.new.local c.self.inside.core c.turn.new.core
 moves c =
     let belongs = c.self.invariant.belongs c.in-Some.at c.index_mut.result.now (was_at c).here in
-    moves_of c.turn.result c.index_mut.result.now c.turn.new.local c.self.inside.core c.turn.new.core c.args.call.now c.options-pending.ensures.state belongs c.turn.ensures.ok c.turn.ensures.err
+    moves_of c.turn.result c.index_mut.result.now c.turn.new.local c.self.inside.core c.turn.new.core c.args.call.now c.options-options.ensures.state belongs c.turn.ensures.ok c.turn.ensures.err
 
 pub unreachable-requires : goal.unreachable-requires
 unreachable-requires c =
@@ -29,8 +29,8 @@ turn-requires-clause-running c = at_running c.self.inside.core c.self.inside.loc
 
 pub turn-requires-clause-pending : goal.turn-requires-clause-pending
 turn-requires-clause-pending c =
-    let options = options_are c.self.inside.core c.index_mut.result.now c.options-pending.ensures.state (c.self.invariant.belongs c.in-Some.at c.index_mut.result.now (is_at c).here) in
-    rw (c.options-pending.ensures.options, options) (c.self.invariant.pending, refl)
+    let options = options_are c.self.inside.core c.index_mut.result.now c.options-options.ensures.state (c.self.invariant.belongs c.in-Some.at c.index_mut.result.now (is_at c).here) in
+    rw (options) c.self.invariant.pending
 
 pub invariant_of-self : goal.invariant_of-self
 invariant_of-self c =
@@ -39,17 +39,17 @@ invariant_of-self c =
 pub returns-clause-told : goal.returns-clause-told
 returns-clause-told c =
     let is = was_at c in
-    rw (← c.self.view_is) (subst (IsTold (seen (world_of c.self.inside.core c.self.inside.locals.items))) is.thread (told c.self.inside.core c.self.inside.locals.items c.in-Some.at c.index_mut.result.now c.options-pending.ensures.state c.self.invariant is.here))
+    rw (← c.self.view_is) (subst (IsTold (seen (world_of c.self.inside.core c.self.inside.locals.items))) is.thread (told c.self.inside.core c.self.inside.locals.items c.in-Some.at c.index_mut.result.now c.options-options.ensures.state c.self.invariant is.here))
 
 pub returns-clause-ok : goal.returns-clause-ok
 returns-clause-ok c =
     let is = was_at c in
-    rw (← c.self.view_is) (step_ok c.self.inside.core c.turn.new.core c.self.inside.locals.items c.in-Some.at c.index_mut.result.now c.turn.new.local c.self.invariant is.here (moves c) c.options-pending.ensures.state c.args.thread is.thread c.turn.result c.args.call.now c.turn.ensures.ok)
+    rw (← c.self.view_is) (step_ok c.self.inside.core c.turn.new.core c.self.inside.locals.items c.in-Some.at c.index_mut.result.now c.turn.new.local c.self.invariant is.here (moves c) c.options-options.ensures.state c.args.thread is.thread c.turn.result c.args.call.now c.turn.ensures.ok)
 
 pub returns-clause-err : goal.returns-clause-err
 returns-clause-err c =
     let is = was_at c in
-    rw (← c.self.view_is) (step_err c.self.inside.core c.turn.new.core c.self.inside.locals.items c.in-Some.at c.index_mut.result.now c.turn.new.local c.self.invariant is.here (moves c) c.options-pending.ensures.state c.args.thread is.thread c.turn.result c.turn.ensures.err)
+    rw (← c.self.view_is) (step_err c.self.inside.core c.turn.new.core c.self.inside.locals.items c.in-Some.at c.index_mut.result.now c.turn.new.local c.self.invariant is.here (moves c) c.options-options.ensures.state c.args.thread is.thread c.turn.result c.turn.ensures.err)
 
 pub returns-clause-threads : goal.returns-clause-threads
 returns-clause-threads c =
