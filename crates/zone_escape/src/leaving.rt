@@ -31,7 +31,7 @@ fn let_go(local: &Local, heap: &mut Heap, id: BlockId)
     };
 }
 
-/// The same of the register's block, if it holds one.
+/// Tells the heap that the thread no longer holds what the register holds.
 fn let_register_go(local: &Local, heap: &mut Heap, reg: Reg)
     ensures { Told (emptied local.now) heap.old heap.new (stands_at local.now reg) }
 {
@@ -41,7 +41,7 @@ fn let_register_go(local: &Local, heap: &mut Heap, reg: Reg)
     }
 }
 
-/// The same of all registers.
+/// Tells the heap that the thread no longer holds what its registers hold.
 fn let_registers_go(local: &Local, heap: &mut Heap)
     ensures { Told (emptied local.now) heap.old heap.new (below (stands_at local.now) 16) }
 {
@@ -53,7 +53,7 @@ fn let_registers_go(local: &Local, heap: &mut Heap)
     }
 }
 
-/// The same of the block to which a word refers.
+/// Tells the heap that the thread no longer holds the block to which the word refers, if it refers to one.
 fn let_word_go(local: &Local, heap: &mut Heap, word: Word)
     ensures { Told (emptied local.now) heap.old heap.new (λ q. refers_to q word) }
 {
@@ -63,7 +63,7 @@ fn let_word_go(local: &Local, heap: &mut Heap, word: Word)
     }
 }
 
-/// The same of the blocks to which these words refer.
+/// Tells the heap that the thread no longer holds the blocks to which these words refer.
 fn let_words_go(local: &Local, heap: &mut Heap, words: &[Word])
     ensures { Told (emptied local.now) heap.old heap.new (refer_to words.now) }
 {
@@ -72,7 +72,7 @@ fn let_words_go(local: &Local, heap: &mut Heap, words: &[Word])
     }
 }
 
-/// The same of the blocks to which the words of these blocks of the thread refer.
+/// Tells the heap that the thread no longer holds the blocks to which words of these unescaped blocks refer.
 fn let_blocks_go(local: &Local, heap: &mut Heap, ids: &[BlockId])
     requires { (q : BlockId) → among ids.now q ≡ true → is_in (part_in local.now) q ≡ true }
     ensures { Told (emptied local.now) heap.old heap.new (refer_from local.now ids.now) }
@@ -83,7 +83,7 @@ fn let_blocks_go(local: &Local, heap: &mut Heap, ids: &[BlockId])
     }
 }
 
-/// The same of all that the thread holds, where these are all its blocks. It takes no memory.
+/// Tells the heap that the thread no longer holds any block, where these are all its unescaped ones. It takes no memory.
 fn let_all_go(local: &Local, heap: &mut Heap, own: &[BlockId])
     requires { Lists own.now (λ b. IsTrue (is_in (part_in local.now) b)) }
     ensures { LetsGo local.now heap.old heap.new }

@@ -40,11 +40,10 @@ pub fn may(_local: &Local, core: &Core, call: &Call) -> bool
 }
 
 /// The call `stats`: the statistics of the zone. O(1).
-fn stats(local: &Local, heap: &Heap) -> Reply
-    requires { CanMake local.now heap.now call.Stats }
-    ensures { Makes local.now local.now heap.now heap.now call.Stats result }
+fn stats(_local: &Local, heap: &Heap) -> Reply
+    requires { CanMake _local.now heap.now call.Stats }
+    ensures { Makes _local.now _local.now heap.now heap.now call.Stats result }
 {
-    let _ = local;
     Reply::Stats(heap.stats())
 }
 

@@ -26,7 +26,7 @@ fn tell_block(local: &Local, heap: &mut Heap, id: BlockId)
     };
 }
 
-/// The same of a register's block, if it holds one.
+/// Tells the heap how often the thread holds the block, where it is one and one of the heap's.
 fn tell_held(local: &Local, heap: &mut Heap, held: Option<BlockId>)
     requires { CanTell local.now heap.old (λ q. is_block q held) }
     ensures { Told local.now heap.old heap.new (λ q. is_block q held) }
@@ -37,8 +37,8 @@ fn tell_held(local: &Local, heap: &mut Heap, held: Option<BlockId>)
     }
 }
 
-/// The same of the block that the register held when the thread's holds were last published, and of the one that it holds
-/// now, where it is another one.
+/// Tells the heap how often the thread holds the block that the register held when the thread's holds were last published,
+/// and the one that it holds now; nothing, where these are one.
 fn tell_register(local: &Local, heap: &mut Heap, reg: Reg)
     requires { CanTellAll local.now heap.old }
     ensures told { Told local.now heap.old heap.new (moved_at local.now reg) }
@@ -53,7 +53,7 @@ fn tell_register(local: &Local, heap: &mut Heap, reg: Reg)
     tell_held(local, heap, *now);
 }
 
-/// The same of all registers.
+/// Tells the heap how often the thread holds the blocks that came into a register since then, or left it.
 fn tell_registers(local: &Local, heap: &mut Heap)
     requires { CanTellAll local.now heap.old }
     ensures told { Told local.now heap.old heap.new (below (moved_at local.now) 16) }
@@ -67,7 +67,7 @@ fn tell_registers(local: &Local, heap: &mut Heap)
     }
 }
 
-/// The same of each of these blocks.
+/// Tells the heap how often the thread holds each of these blocks that is one of the heap's.
 fn tell_blocks(local: &Local, heap: &mut Heap, ids: &[BlockId])
     requires { CanTell local.now heap.old (among ids.now) }
     ensures { Told local.now heap.old heap.new (among ids.now) }
