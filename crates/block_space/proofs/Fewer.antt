@@ -203,7 +203,7 @@ module _ (s cur : Space') (ps : List Place) (sound : IsSound s) (may : MayFree s
         (let f : None ≡ Some l = sym gone ∙ here in cc)
 
     leads_not : (p : Place) → Contains ps p → ¬ LeadsTo s (get_or (region s k).words (at * (region s k).width + i) word.Null) p
-    leads_not p c = subst (λ (w : PlacedWord). ¬ LeadsTo s w p) (word_spot s home.0 (spot_at k at) i home.1) (may home.0 l i (layout_spot s home.0 (spot_at k at) home.1 ∙ was) stays_there lt p c)
+    leads_not p c = subst (λ (w : PlacedWord). ¬ LeadsTo s w p) (word_spot s home.0 (spot_at k at) i home.1) (may.apart home.0 l i (layout_spot s home.0 (spot_at k at) home.1 ∙ was) stays_there lt p c)
 
     right_by : (w : PlacedWord) → ((p : Place) → Contains ps p → ¬ LeadsTo s w p) → IsRight s.small.layouts s.medium.layouts s.small.ids s.medium.ids w → IsRight cur.small.layouts cur.medium.layouts cur.small.ids cur.medium.ids w
     right_by word.Null f h = h
@@ -228,9 +228,9 @@ module _ (s cur : Space') (ps : List Place) (sound : IsSound s) (may : MayFree s
   }
 
 -- where no word knows where its block lies, none leads anywhere
-pub nothing_leads : (s : Space') → IsSound s → ((j : ℕ) → j < length s.small.words → known (get_or s.small.words j word.Null) ≡ None) → ((j : ℕ) → j < length s.medium.words → known (get_or s.medium.words j word.Null) ≡ None)
-    → (ps : List Place) → MayFree s ps
-nothing_leads s sound small medium ps q o i e d lt p c leads =
+leads_nowhere : (s : Space') → IsSound s → ((j : ℕ) → j < length s.small.words → known (get_or s.small.words j word.Null) ≡ None) → ((j : ℕ) → j < length s.medium.words → known (get_or s.medium.words j word.Null) ≡ None)
+    → (ps : List Place) (q : Place) (o : Layout) (i : ℕ) → layout_at s q ≡ Some o → ¬ Contains ps q → i < len_of o → (p : Place) → Contains ps p → ¬ LeadsTo s (placed_at s q i) p
+leads_nowhere s sound small medium ps q o i e d lt p c leads =
     let x = some_spot s q o e in
     let inside = word_inside (region s x.0.kind) x.0.at i (sound.regions x.0.kind) (subst (λ (m : Option Layout). MatchOption m ⊥ (λ l. i < len_of l)) (sym x.2) lt) in
     let none : known (placed_at s q i) ≡ None = ap known (word_spot s q x.0 i x.1) ∙ by_kind x.0.kind (x.0.at * (region s x.0.kind).width + i) inside in
@@ -239,3 +239,7 @@ nothing_leads s sound small medium ps q o i e d lt p c leads =
     by_kind : (k : Kind) (j : ℕ) → j < length (region s k).words → known (get_or (region s k).words j word.Null) ≡ None
     by_kind kind.Small j l = small j l
     by_kind kind.Medium j l = medium j l
+
+pub nothing_leads : (s : Space') → IsSound s → ((j : ℕ) → j < length s.small.words → known (get_or s.small.words j word.Null) ≡ None) → ((j : ℕ) → j < length s.medium.words → known (get_or s.medium.words j word.Null) ≡ None)
+    → (ps : List Place) → MayFree s ps
+nothing_leads s sound small medium ps = record { apart = leads_nowhere s sound small medium ps }

@@ -1,5 +1,5 @@
 -- A space as a map from places to blocks
-use Rattle.std.specs.Prelude.{◌≡◌, ◌≢◌, ℕ, ◌<◌, ◌⊎◌, ◌∷◌, [], List, Some, None, MatchOption, Contains}
+use Rattle.std.specs.Prelude.{◌≡◌, ◌≢◌, ℕ, ◌<◌, ◌⊎◌, ◌∷◌, [], List, Some, None, MatchOption, Contains, get_or}
 use Rattle.az_base.specs.declared.block_id.BlockId.{BlockId}
 use Rattle.az_base.specs.declared.word.Word.TheVariants as plain
 use Rattle.block_layouts.specs.declared.layout.Layout.{Layout}
@@ -7,11 +7,12 @@ use Rattle.block_layouts.specs.Layouts.{class_at, len_of}
 use Rattle.quantum_space.specs.declared.admin.Admin.{Admin}
 use Rattle.quantum_space.specs.declared.place.Place.{Place}
 use Rattle.quantum_space.specs.declared.placed.PlacedWord.{PlacedWord}
+use Rattle.quantum_space.specs.declared.placed.PlacedWord.TheVariants as placed
 use Rattle.quantum_space.specs.PlacedWords.{known}
-use Rattle.quantum_space.specs.Regions.{IsRegion, new_byte, new_word}
+use Rattle.quantum_space.specs.Regions.{IsRegion, Region', new_byte, new_word}
 use Rattle.block_space.specs.declared.table.Kind.{Kind}
-use Rattle.block_space.specs.Tables.{IsTable}
-use Rattle.block_space.specs.Spaces.{Space', HasBlockAt, IsSpace, IsTakenOff, admin_at, byte_at, id_at, layout_at, number_spot, placed_at, region, spot_of, word_at}
+use Rattle.block_space.specs.Tables.{IsTable, Table'}
+use Rattle.block_space.specs.Spaces.{Space', HasBlockAt, IsSpace, IsTakenOff, admin_at, byte_at, id_at, layout_at, number_spot, placed_at, region, space_of, spot_of, word_at}
 
 -- what holds of each space and of its parts
 pub record IsSound (s : Space') : Type 0 where
@@ -57,9 +58,13 @@ RefersTo s p i q = HasBlockAt s q × (word_at s p i ≡ plain.Block (id_at s q))
 abbrev pub LeadsTo : Space' → PlacedWord → Place → Type 0
 LeadsTo s w p = MatchOption (known w) ⊥ (λ n. spot_of s p ≡ Some (number_spot n))
 
+-- no word of a subzone knows where its block lies
+pub record KnowsNone (s : Space') : Type 0 where
+  pub none : (k : Kind) (j : ℕ) → known (get_or (region s k).words j placed.Null) ≡ None
+
 -- no word of a block that stays knows that its block lies at one of these places
-abbrev pub MayFree : Space' → List Place → Type 0
-MayFree s ps = (q : Place) (o : Layout) (i : ℕ) → layout_at s q ≡ Some o → ¬ Contains ps q → i < len_of o → (p : Place) → Contains ps p → ¬ LeadsTo s (placed_at s q i) p
+pub record MayFree (s : Space') (ps : List Place) : Type 0 where
+  pub apart : (q : Place) (o : Layout) (i : ℕ) → layout_at s q ≡ Some o → ¬ Contains ps q → i < len_of o → (p : Place) → Contains ps p → ¬ LeadsTo s (placed_at s q i) p
 
 -- the block at a place has gone, if one began there
 abbrev pub MayBeTakenOff : Space' → Place → Space' → Type 0
@@ -75,3 +80,7 @@ pub record HasBlocksLess (s new : Space') (ps : List Place) : Type 0 where
   pub gone : (p : Place) → Contains ps p → layout_at new p ≡ None
   pub others : (q : Place) (o : Layout) → ¬ Contains ps q → layout_at s q ≡ Some o → IsSameBlock s new q o
   pub only : (q : Place) (o : Layout) → layout_at new q ≡ Some o → layout_at s q ≡ Some o
+
+-- the block at a place has gone from the parts of a space, if one began there, whatever blocks are to come
+abbrev pub IsFreedThere : Region' → Region' → Table' → ℕ → Place → Region' → Region' → ℕ → Type 0
+IsFreedThere a b t used p new other left = (ns : List ℕ) → MayBeTakenOff (space_of a b t ns used) p (space_of new other t ns left)

@@ -246,12 +246,15 @@ BeginsAt layouts ids at id = MatchOption (get_or layouts at None) ⊥ (λ l. get
 -- where a word of small and medium blocks knows that its block lies, there it lies
 abbrev pub IsRight : List (Option Layout) → List (Option Layout) → List BlockId → List BlockId → PlacedWord → Type 0
 IsRight ls ms is js word.Null = ⊤
-IsRight ls ms is js (word.Block id n) = MatchOption (known_number n) ⊤ (λ m. BeginsAt (of_kind (number_spot m).kind ls ms) (of_kind (number_spot m).kind is js) (number_spot m).at id)
+IsRight ls ms is js (word.Block id n) =
+    MatchOption (known_number n) ⊤ (λ m. BeginsAt (of_kind (number_spot m).kind ls ms) (of_kind (number_spot m).kind is js) (number_spot m).at id)
 IsRight ls ms is js (word.Number n) = ⊤
 
 -- so it is for each word of the blocks of a region, where the blocks are those of two regions
 abbrev pub AreRight : Region' → Region' → Region' → Type 0
-AreRight r a b = (at : ℕ) (l : Layout) → get_or r.layouts at None ≡ Some l → (i : ℕ) → i < len_of l → IsRight a.layouts b.layouts a.ids b.ids (get_or r.words (at * r.width + i) word.Null)
+AreRight r a b =
+    (at : ℕ) (l : Layout) → get_or r.layouts at None ≡ Some l → (i : ℕ) → i < len_of l
+    → IsRight a.layouts b.layouts a.ids b.ids (get_or r.words (at * r.width + i) word.Null)
 
 -- a space, each word of which is right about where its block lies
 pub record IsWhole (s : Space') : Type 0 where

@@ -15,10 +15,13 @@
 //! a block that stays knows it to lie there; blocks that refer to one another are freed in one call (`free_all`).
 //!
 //! Room is taken first. `reserve` takes it for blocks of given lengths, which come in that order, and is the only call
-//! that may want memory; `place` then puts each into its hole. All else is O(1), but for `free` and `free_all`, which are O(quanta of the
-//! block), `place`, which is O(quanta and words of the block) and what its search passes over, `reserve`, which is
-//! O(lengths still to come) besides what it adds, and `whiten_all` and `age_all`, which walk over the bytes of all
-//! subzones.
+//! that may want memory; `place` then puts each into its hole. What calls cost:
+//!
+//! - `place` O(quanta and words of the block), and what its search passes over; `free` and `free_all` O(quanta of the
+//!   blocks);
+//! - `reserve` and `may_reserve` O(lengths asked for, and those still to come), and `reserve` what it adds besides;
+//! - `whiten_all` and `age_all` O(bytes of all subzones), and `knows_no_place` O(their words);
+//! - all else O(1).
 #![tactic(auto)]
 
 mod space;

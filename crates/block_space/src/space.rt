@@ -7,8 +7,8 @@ ghost use Rattle.quantum_space.specs.AdminBytes.{admin_of, aged, whitened, with_
 ghost use Rattle.quantum_space.specs.declared.admin.Admin.{Admin as AnAdmin};
 ghost use Rattle.quantum_space.specs.declared.shade.Shade.TheVariants as shade;
 ghost use Rattle.block_space.specs.Tables.{Table', numbers, opened_with};
-ghost use Rattle.block_space.specs.Spaces.{Space', kind_of, size_of, width_of, region, spot_in, spot_of, layout_at, placed_at, word_at, byte_at, admin_at, id_at, HasBlockAt, HasWordAt, IsRoomierSpace, IsFreedIn, IsRight, IsTakenOff, IsPlacedAt, IsPlacedIn, IsRenotedSpace, IsSubzoneMap, IsWhole, AreLengths, IsCovered, block_quanta, kind_length, kind_quanta, list_quanta, reference, space_of, with_admin, with_word_at, with_card, with_finalised, with_spare};
-ghost use Rattle.block_space.specs.Maps.{AreNoted, AreTakenOff, HasBlockLess, HasBlockMore, HasBlocksLess, MayBeTakenOff, MayFree, IsSound, RefersTo};
+ghost use Rattle.block_space.specs.Spaces.{Space', kind_of, size_of, width_of, region, spot_in, spot_of, layout_at, placed_at, word_at, byte_at, admin_at, id_at, HasBlockAt, HasWordAt, IsRoomierSpace, IsFreedIn, IsRight, IsTakenOff, IsPlacedAt, IsPlacedIn, IsRenotedSpace, IsSubzoneMap, IsWhole, AreLengths, IsCovered, block_quanta, kind_length, kind_quanta, list_quanta, reference, with_admin, with_word_at, with_card, with_finalised, with_spare};
+ghost use Rattle.block_space.specs.Maps.{AreNoted, AreTakenOff, HasBlockLess, HasBlockMore, HasBlocksLess, IsFreedThere, KnowsNone, MayFree, IsSound, RefersTo};
 ghost use Rattle.quantum_space.specs.PlacedWords.{known, unplaced};
 ghost use Rattle.quantum_space.specs.declared.place.Place.{Place as APlace};
 ghost use Rattle.block_space.specs.declared.table.Kind.{Kind as AKind};
@@ -388,7 +388,7 @@ fn free_at(region: &mut Region, used: &mut u32, at: usize)
 /// Frees the block at a place, if one begins there.
 fn free_there(small: &mut Region, medium: &mut Region, table: &Table, used: &mut u32, p: Place)
     requires { used.old ≡ block_quanta small.old.layouts + block_quanta medium.old.layouts }
-    ensures freed { (ns : List ℕ) → MayBeTakenOff (space_of small.old medium.old table.now ns used.old) p (space_of small.new medium.new table.now ns used.new) }
+    ensures freed { IsFreedThere small.old medium.old table.now used.old p small.new medium.new used.new }
     ensures whole { (IsRegion small.old × IsRegion small.new) × (IsRegion medium.old × IsRegion medium.new) }
 {
     let _ = small.unopened();
@@ -684,9 +684,11 @@ impl Space {
         self.medium.age();
     }
 
-    /// Whether no word of any subzone knows where its block lies: then any blocks may be freed. O(words of the subzones).
+    /// Whether no word of any subzone, free or in use, knows where its block lies: then any blocks may be freed. O(words of
+    /// the subzones).
     pub fn knows_no_place(&self) -> bool
-        ensures { IsTrue result → (ps : List APlace) → MayFree self.now ps }
+        ensures may { IsTrue result → (ps : List APlace) → MayFree self.now ps }
+        ensures exact { KnowsNone self.now → IsTrue result }
     {
         self.is_sound();
         self.small.knows_none() && self.medium.knows_none()

@@ -119,7 +119,8 @@ fn quanta_at(layouts: &[Option<Layout>], at: usize, width: usize) -> usize
 
 /// Whether none of the words knows where its block lies.
 fn none_known(words: &[PlacedWord]) -> bool
-    ensures { IsTrue result → (k : ℕ) → k < length words.now → known (get_or words.now k Null) ≡ None }
+    ensures none { IsTrue result → (k : ℕ) → k < length words.now → known (get_or words.now k Null) ≡ None }
+    ensures exact { ((k : ℕ) → known (get_or words.now k Null) ≡ None) → IsTrue result }
 {
     for word in words {
         if word.known().is_some() {
@@ -281,7 +282,8 @@ impl Region {
 
     /// Whether no word of any subzone knows where its block lies. O(words of the subzones).
     pub fn knows_none(&self) -> bool
-        ensures { IsTrue result → (k : ℕ) → k < length self.now.words → known (get_or self.now.words k Null) ≡ None }
+        ensures none { IsTrue result → (k : ℕ) → k < length self.now.words → known (get_or self.now.words k Null) ≡ None }
+        ensures exact { ((k : ℕ) → known (get_or self.now.words k Null) ≡ None) → IsTrue result }
     {
         none_known(&self.words)
     }
