@@ -122,8 +122,8 @@ fn play_all(alloc: Global, world: &mut World, lines: &[Line]) -> Result<Stats, N
 pub fn play(alloc: Global, script: &Script) -> Result<Recording, NoMemory>
     requires options { IsValid script.now.options }
     requires built { AllBuilt script.now.lines }
-    ensures play { IfOk result (λ p. IsPlayOf script.now.options (requests_of script.now) p.entries.items p.stats) }
     ensures history { IfOk result (λ p. IsHistoryOf script.now.options (requests_of script.now) p.entries.items p.stats) }
+    ensures ordered { IfOk result (λ p. IsPlayOf script.now.options (requests_of script.now) p.entries.items p.stats) }
 {
     let lines = script.lines.as_slice();
     let threads = threads_of(alloc, lines)?;

@@ -20,12 +20,12 @@ play_all-played-requires-clause-running c =
     let asked = c.deref.ensures.value ∙ c.in_ok-threads.ensures in
     record { threads = c.in_ok-world.ensures.threads ∙ asked; running = λ t. c.in_ok-world.ensures.running t ∙ ap (list_any (λ u. u == t)) asked }
 
-pub returns-in-Ok-clause-play : goal.returns-in-Ok-clause-play
-returns-in-Ok-clause-play c =
+pub returns-in-Ok-clause-ordered : goal.returns-in-Ok-clause-ordered
+returns-in-Ok-clause-ordered c =
     play_is c.args.script.now.options c.play_all-played.new.world.options c.as_slice-lines.result.now c.args.script.now.lines c.play_all-played.new.world.journal c.into_vec-entries.result.items c.in-Ok.stats
     (c.in-Ok.ensures.options ∙ ap (λ (s : Seen). s.options) c.in_ok-world.ensures.seen) c.as_slice-lines.ensures (c.into_vec-entries.ensures ∙ c.into_journal.ensures.entries) c.in-Ok.ensures.play
 
 pub returns-in-Ok-clause-history : goal.returns-in-Ok-clause-history
 returns-in-Ok-clause-history c =
     let proper = subst (λ (ls : List Line). All IsProper (requests ls)) c.as_slice-lines.ensures c.in-Ok.ensures.proper in
-    play_history c.args.script.now.options (requests_of c.args.script.now) c.into_vec-entries.result.items c.in-Ok.stats proper (returns-in-Ok-clause-play c)
+    play_history c.args.script.now.options (requests_of c.args.script.now) c.into_vec-entries.result.items c.in-Ok.stats proper (returns-in-Ok-clause-ordered c)
