@@ -1,62 +1,20 @@
 -- Each call of a thread keeps the world
-use Rattle.std.proofs.Common.{◌≡◌, ◌==◌, ◌≤◌, ℕ, Bool, true, false, MatchBool, List, [], ◌∷◌, ◌++◌, Some, length, slice_get, slice_set, refl, sym, ap, subst, ◌∙◌, inl, inr, true≢false, Result, Ok, Err, IfOk, OnErr}
-use Rattle.az_base.specs.Ids.{among}
+use Rattle.std.proofs.Common.{◌≡◌, ◌==◌, ◌≤◌, ℕ, Bool, true, false, MatchBool, List, [], ◌∷◌, ◌++◌, Some, length, slice_get, slice_set, refl, sym, ap, subst, ◌∙◌, inl, inr, Result, Ok, Err, IfOk, OnErr}
 use Rattle.az_base.specs.declared.misuse.NoMemory.{NoMemory}
-use Rattle.az_base.specs.declared.block_id.BlockId.{BlockId}
 use Rattle.az_base.specs.declared.options.Options.{Options}
 use Rattle.zone_model.specs.declared.call.Call.{Call}
 use Rattle.zone_model.specs.declared.entry.Entry.{Entry}
 use Rattle.zone_model.specs.declared.entry.Reply.{Reply}
-use Rattle.zone_model.specs.LocalSteps.{LocalRun}
-use Rattle.zone_model.specs.Part.{Part, part_of, is_local}
-use Rattle.zone_model.specs.State.{State, opening}
-use Rattle.zone_model.proofs.Determined.{run_determined}
-use Rattle.zone_model.proofs.Waiting.{local_run_more}
-use Rattle.local_set.specs.Calls.{Made, Same, entry_of}
-use Rattle.local_set.specs.Holds.{word_holds}
-use Rattle.local_set.specs.LocalSets.{LocalSet, part_in, held_in}
-use Rattle.escape_plan.specs.Together.{Belongs}
-use Rattle.zone_escape.specs.Cores.{CoreShown, IsCore, IsCoreOf, BelongsTo}
+use Rattle.zone_model.specs.Part.{is_local}
+use Rattle.local_set.specs.Calls.{Made, entry_of}
+use Rattle.local_set.specs.LocalSets.{LocalSet, part_in}
+use Rattle.zone_escape.specs.Cores.{CoreShown, IsCore, BelongsTo}
 use Rattle.zone_escape.specs.Publications.{Publishes, Flushed, Stepped, Untouched, Refused}
+use Rattle.zone_escape.proofs.Belonging.{made_belongs, same_belongs, other_belongs, untouched_belongs}
 use Rattle.play_core.specs.Turning.{MakesRoom, Turned, Stopped}
 use Rattle.play_core.specs.Worlds.{Ascending}
 use Rattle.play_core.specs.Inside.{Keeps}
 use Rattle.play_core.proofs.Sets.{apart, threads_set, set_at}
-
--- a core is that of one state
-pub one_state : (k : CoreShown) (z a : State) → IsCoreOf k z → IsCoreOf k a → a ≡ z
-one_state k z a is it = run_determined (opening k.heap.options) k.journal.entries a z it.ends is.ends
-
--- a set that belongs to a part belongs to the same part of another state
-moved : (l : LocalSet) (z a : State) → part_of a l.thread ≡ part_of z l.thread → Belongs l z → Belongs l a
-moved l z a same b = record {
-  options = b.options ∙ sym (ap (λ (p : Part). p.options) same);
-  run = subst (λ p. LocalRun p l.thread l.waiting (part_in l)) (sym same) b.run;
-  published = λ r. b.published r ∙ sym (ap (λ (p : Part). p.registers r) same);
-  unchanged = λ q n. b.unchanged q n ∙ sym (ap (λ (p : Part). word_holds p.blocks q) same);
-}
-
--- one entry more waits
-pub belongs_made : (l m : LocalSet) (k : CoreShown) (c : Call) (reply : Reply) → Made l m c reply → BelongsTo l k → BelongsTo m k
-belongs_made l m k c reply made belongs z is =
-    let b = belongs z is in
-    let same : part_of z m.thread ≡ part_of z l.thread = ap (part_of z) made.thread in
-    record {
-      options = made.options ∙ b.options;
-      run = subst (λ t. LocalRun (part_of z t) t m.waiting (part_in m)) (sym made.thread)
-          (subst (λ es. LocalRun (part_of z l.thread) l.thread es (part_in m)) (sym made.waiting)
-          (local_run_more (part_of z l.thread) l.thread l.waiting (part_in l) (entry_of l.thread c reply) (part_in m) b.run made.step));
-      published = λ r. ap (λ rs. held_in rs r) made.published ∙ b.published r ∙ sym (ap (λ t. z.registers t r) made.thread);
-      unchanged = λ q n. made.notes.others q n ∙ b.unchanged q (before q n (among l.changed q) refl) ∙ sym (ap (λ (p : Part). word_holds p.blocks q) same);
-    }
-  where
-    before : (q : BlockId) → among m.changed q ≡ false → (b : Bool) → among l.changed q ≡ b → among l.changed q ≡ false
-    before q n true e = absurd (true≢false (sym (made.notes.kept q e) ∙ n))
-    before q n false e = e
-
--- the room doesn't count
-belongs_same : (l m : LocalSet) (k : CoreShown) → Same l m → BelongsTo l k → BelongsTo m k
-belongs_same l m k same belongs = subst (λ x. BelongsTo x k) (sym same) (λ z is. let b = belongs z is in record { options = b.options; run = b.run; published = b.published; unchanged = b.unchanged })
 
 -- what a call leaves of the core, and of what belongs to it
 pub record Moves (l m : LocalSet) (k n : CoreShown) : Type 0 where
@@ -70,7 +28,7 @@ published l m k n es core p = record {
   thread = p.thread;
   options = p.options;
   belongs = p.belongs;
-  others = λ x other b a is. moved x core.0 a (p.others core.0 a core.1 is x.thread other) (b core.0 core.1);
+  others = λ x other b. other_belongs l.thread x k n core p.others other b;
 }
 
 -- the same state, and so the same sets
@@ -78,12 +36,9 @@ untouched : (l m : LocalSet) (k n : CoreShown) → IsCore k → Untouched l m k 
 untouched l m k n core u belongs = record {
   thread = ap (λ (x : LocalSet). x.thread) u.local;
   options = u.options;
-  belongs = subst (λ x. BelongsTo x n) (sym u.local) (still l belongs);
-  others = λ x other b. still x b;
+  belongs = subst (λ x. BelongsTo x n) (sym u.local) (untouched_belongs l k n core u.state belongs);
+  others = λ x other b. untouched_belongs x k n core u.state b;
 }
-  where
-    still : (x : LocalSet) → BelongsTo x k → BelongsTo x n
-    still x b a is = subst (Belongs x) (sym (one_state n core.0 a (u.state core.0 core.1) is)) (b core.0 core.1)
 
 nothing_done : (l : LocalSet) (k : CoreShown) → BelongsTo l k → Moves l l k k
 nothing_done l k belongs = record { thread = refl; options = refl; belongs = belongs; others = λ x other b. b }
@@ -92,7 +47,7 @@ then_made : (l mid m : LocalSet) (k n : CoreShown) (c : Call) (reply : Reply) �
 then_made l mid m k n c reply moves made = record {
   thread = made.thread ∙ moves.thread;
   options = moves.options;
-  belongs = belongs_made mid m n c reply made moves.belongs;
+  belongs = made_belongs mid m n c reply moves.belongs made;
   others = moves.others;
 }
 
@@ -120,7 +75,7 @@ keeps_stopped l m k n core belongs s = roomed (by s.1)
     roomed moves = record {
       thread = ap (λ (x : LocalSet). x.thread) s.2 ∙ moves.thread;
       options = moves.options;
-      belongs = belongs_same s.0 m n s.2 moves.belongs;
+      belongs = same_belongs s.0 m n moves.belongs s.2;
       others = moves.others;
     }
 

@@ -3,19 +3,15 @@ use Rattle.std.proofs.Common.{◌≡◌, ◌==◌, ◌<◌, ◌≤◌, ◌+◌, 
 use Rattle.std.specs.List.{list_any}
 use Rattle.std.specs.Option.{option_map_or}
 use Rattle.az_base.specs.declared.options.Options.{Options}
-use Rattle.zone_model.specs.LocalSteps.{LocalRun}
-use Rattle.zone_model.specs.Part.{Part, part_of, opening_part}
+use Rattle.zone_model.specs.Part.{Part, opening_part}
 use Rattle.zone_model.specs.State.{opening}
-use Rattle.zone_model.proofs.PartSteps.{parts_law}
-use Rattle.local_set.specs.Holds.{word_holds}
-use Rattle.local_set.specs.LocalSets.{LocalSet, part_in, held_in}
-use Rattle.escape_plan.specs.Together.{Belongs}
-use Rattle.zone_escape.specs.Cores.{CoreShown, IsCoreOf}
+use Rattle.local_set.specs.LocalSets.{LocalSet, part_in}
+use Rattle.zone_escape.specs.Cores.{CoreShown, IsCoreOf, IsUnused}
 use Rattle.play_core.specs.Opening.{opening_seen, IsNew, AreNew}
 use Rattle.play_core.specs.Worlds.{threads_in, Ascending, part_at, seen, is_running}
 use Rattle.play_core.specs.Inside.{Keeps}
-use Rattle.play_core.proofs.Sets.{is_of}
-use Rattle.play_core.proofs.Keeping.{one_state}
+use Rattle.zone_escape.proofs.Belonging.{new_belongs}
+use Rattle.play_core.proofs.Sets.{is_of, one_set}
 use Rattle.play_core.proofs.Stepping.{world_of}
 
 new_more : (o : Options) (ts : List ℕ) (ls : List LocalSet) (t : ℕ) (l : LocalSet) → AreNew o ts ls → IsNew o t l → AreNew o (ts ++ t ∷ []) (ls ++ l ∷ [])
@@ -36,37 +32,20 @@ new_threads o (t ∷ ts) (l ∷ ls) h = ap₂ (λ u us. u ∷ us) h.0.thread (ne
 new_threads o [] (l ∷ ls) h = absurd h
 new_threads o (t ∷ ts) [] h = absurd h
 
--- a part of the opening state has nothing in it
-opening_is : (o : Options) (t : ℕ) → part_of (opening o) t ≡ opening_part o
-opening_is o t = parts_law o [] (opening o) t refl
-
-belongs_new : (o : Options) (t : ℕ) (l : LocalSet) → IsNew o t l → Belongs l (opening o)
-belongs_new o t l new =
-    let part : part_in l ≡ part_of (opening o) l.thread = new.part ∙ sym (opening_is o l.thread) in
-    record {
-      options = ap (λ (p : Part). p.options) part;
-      run = subst (λ es. LocalRun (part_of (opening o) l.thread) l.thread es (part_in l)) (sym new.waiting) part;
-      published = λ r. ap (λ rs. held_in rs r) new.published ∙ ap (λ (p : Part). p.registers r) part;
-      unchanged = λ q n. ap (λ (p : Part). word_holds p.blocks q) part;
-    }
-
-all_belong : (o : Options) (ts : List ℕ) (ls : List LocalSet) → AreNew o ts ls → (at : ℕ) (l : LocalSet) → slice_get ls at ≡ Some l → Belongs l (opening o)
-all_belong o [] [] h at l here = absurd (none l here)
+one_of_new : (o : Options) (ts : List ℕ) (ls : List LocalSet) → AreNew o ts ls → (at : ℕ) (l : LocalSet) → slice_get ls at ≡ Some l → IsUnused l o
+one_of_new o [] [] h at l here = absurd (none l here)
   where
     none : (l : LocalSet) → None ≡ Some l → ⊥
     none l h = cc (h)
-all_belong o (t ∷ ts) (x ∷ xs) h zero l here = subst (λ y. Belongs y (opening o)) (one x l here) (belongs_new o t x h.0)
-  where
-    one : (x l : LocalSet) → Some x ≡ Some l → x ≡ l
-    one x l h = cc (h)
-all_belong o (t ∷ ts) (x ∷ xs) h (suc at) l here = all_belong o ts xs h.1 at l here
-all_belong o [] (x ∷ xs) h at l here = absurd h
-all_belong o (t ∷ ts) [] h at l here = absurd h
+one_of_new o (t ∷ ts) (x ∷ xs) h zero l here = subst (λ y. IsUnused y o) (one_set x l here) h.0.unused
+one_of_new o (t ∷ ts) (x ∷ xs) h (suc at) l here = one_of_new o ts xs h.1 at l here
+one_of_new o [] (x ∷ xs) h at l here = absurd h
+one_of_new o (t ∷ ts) [] h at l here = absurd h
 
 pub keeps_new : (o : Options) (ts : List ℕ) (k : CoreShown) (ls : List LocalSet) → AreNew o ts ls → Ascending ts → IsCoreOf k (opening o) → k.heap.options ≡ o → 1 ≤ o.pending → Keeps k ls
 keeps_new o ts k ls new up is options pending = record {
   ascending = subst Ascending (sym (new_threads o ts ls new)) up;
-  belongs = λ at l here z it. subst (Belongs l) (sym (one_state k (opening o) z is it)) (all_belong o ts ls new at l here);
+  belongs = λ at l here. new_belongs l k o is (one_of_new o ts ls new at l here);
   pending = subst (λ (p : Options). 1 ≤ p.pending) (sym options) pending;
 }
 
@@ -78,7 +57,7 @@ running_new o (u ∷ us) (x ∷ xs) t h = by (u == t) refl (running_new o us xs 
         → option_map_or (λ (l : LocalSet). not l.ended) (cond (x.thread == t) (Some x) (find (is_of t) xs)) false ≡ ((u == t) || list_any (λ u. u == t) us)
     by true e rest =
         ap (λ b. option_map_or (λ (l : LocalSet). not l.ended) (cond b (Some x) (find (is_of t) xs)) false) (ap (λ n. n == t) h.0.thread ∙ e)
-        ∙ ap (λ (p : Part). not p.ended) h.0.part ∙ sym (ap (λ b. b || list_any (λ u. u == t) us) e)
+        ∙ ap (λ (p : Part). not p.ended) h.0.unused.part ∙ sym (ap (λ b. b || list_any (λ u. u == t) us) e)
     by false e rest =
         ap (λ b. option_map_or (λ (l : LocalSet). not l.ended) (cond b (Some x) (find (is_of t) xs)) false) (ap (λ n. n == t) h.0.thread ∙ e)
         ∙ rest ∙ sym (ap (λ b. b || list_any (λ u. u == t) us) e)
@@ -102,7 +81,7 @@ each_new f d o is (u ∷ us) [] h t = absurd h
 
 pub seen_new : (o : Options) (ts : List ℕ) (k : CoreShown) (ls : List LocalSet) → AreNew o ts ls → k.heap.options ≡ o → k.journal.entries ≡ [] → seen (world_of k ls) ≡ opening_seen o
 seen_new o ts k ls new options entries =
-    let waits = each_new (λ l. l.waiting) [] o (λ t l n. n.waiting) ts ls new in
+    let waits = each_new (λ l. l.waiting) [] o (λ t l n. n.unused.out) ts ls new in
     let parts : (t : ℕ) → part_at (world_of k ls) t ≡ opening_part o =
-    λ t. ap (λ (p : Options). option_map_or part_in (find (is_of t) ls) (opening_part p)) options ∙ each_new part_in (opening_part o) o (λ u l n. n.part) ts ls new t in
+    λ t. ap (λ (p : Options). option_map_or part_in (find (is_of t) ls) (opening_part p)) options ∙ each_new part_in (opening_part o) o (λ u l n. n.unused.part) ts ls new t in
     λ i. record { options = options i; queues = record { journal = entries i; waits = λ t. waits t i }; parts = λ t. parts t i }

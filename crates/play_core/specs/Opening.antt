@@ -2,7 +2,8 @@
 use Rattle.std.specs.Prelude.{◌≡◌, ℕ, List, [], ◌∷◌}
 use Rattle.az_base.specs.declared.options.Options.{Options}
 use Rattle.zone_model.specs.Part.{opening_part}
-use Rattle.local_set.specs.LocalSets.{LocalSet, part_in}
+use Rattle.local_set.specs.LocalSets.{LocalSet}
+use Rattle.zone_escape.specs.Cores.{IsUnused}
 use Rattle.play_order.specs.Playing.{Seen}
 
 -- nothing was published, and nothing waits
@@ -12,10 +13,7 @@ opening_seen o = record { options = o; queues = record { journal = []; waits = �
 -- the set of a thread that has done nothing
 pub record IsNew (o : Options) (t : ℕ) (l : LocalSet) : Type 0 where
   pub thread : l.thread ≡ t
-  pub part : part_in l ≡ opening_part o
-  pub waiting : l.waiting ≡ []
-  pub published : l.published ≡ l.registers
-  pub changed : l.changed ≡ []
+  pub unused : IsUnused l o
 
 -- the sets of these threads, none of which has done anything
 abbrev pub AreNew : Options → List ℕ → List LocalSet → Type 0

@@ -20,7 +20,7 @@ loop-thread-preserved c =
     let new = c.new.ensures in
     record {
       made = rw c.push_reserved.ensures.items (new_next c.args.options c.args.threads.now c.loop-thread.thread-index c.thread-item.result c.loop-thread.locals.items c.new.result c.loop-thread-test.true c.thread-item.is i.made
-          record { thread = new.thread; part = new.part; waiting = new.waiting; published = new.published; changed = new.changed });
+          record { thread = new.thread; unused = record { part = new.part; out = new.waiting; published = new.published } });
       number = let len = c.push_reserved.ensures.len in let number = i.number in omega (arith, len, number);
       room = let most = c.push_reserved.ensures.capacity in let room = i.room in omega (arith, most, room);
     }
