@@ -16,3 +16,4 @@ pub mod Ended
 pub mod Stepped
 pub mod Belonging
 pub mod Counted
+pub mod Room

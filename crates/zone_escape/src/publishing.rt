@@ -34,8 +34,21 @@ fn reserve(local: &Local, journal: &mut Journal, more: u32) -> Result<(), NoMemo
     journal.reserve(waiting + u64::from(more))
 }
 
+/// Where nothing waits, takes room for `more` entries: what the thread holds is as it was published.
+fn take_room(local: &Local, core: &mut Core, more: u32) -> Result<(), NoMemory>
+    requires belongs { BelongsTo local.now core.old }
+    requires out { local.now.waiting ≡ [] }
+    ensures ok { OnOk result (Flushed local.now local.now core.old core.new) }
+    ensures room { OnOk result (core.new.journal.owed + more ≤ core.new.journal.spare) }
+    ensures err { OnErr result (Untouched local.now local.now core.old core.new) }
+    ensures legal { Legal core.new.heap.options core.new.journal.entries }
+    ensures state { IsCore core.new }
+{
+    core.journal.reserve(u64::from(more))
+}
+
 /// Publishes what waits, and takes room for `more` entries beside. NoMemory leaves all as it was.
-pub(crate) fn publish(local: &mut Local, core: &mut Core, more: u32) -> Result<(), NoMemory>
+fn publish_waiting(local: &mut Local, core: &mut Core, more: u32) -> Result<(), NoMemory>
     requires { BelongsTo local.old core.old }
     ensures ok { OnOk result (Flushed local.old local.new core.old core.new) }
     ensures room { OnOk result (core.new.journal.owed + more ≤ core.new.journal.spare) }
@@ -48,6 +61,22 @@ pub(crate) fn publish(local: &mut Local, core: &mut Core, more: u32) -> Result<(
     push_waiting(local, &mut core.journal);
     local.mark_published();
     Ok(())
+}
+
+/// Publishes what waits, if anything does, and takes room for `more` entries beside. NoMemory leaves all as it was.
+pub(crate) fn publish(local: &mut Local, core: &mut Core, more: u32) -> Result<(), NoMemory>
+    requires { BelongsTo local.old core.old }
+    ensures ok { OnOk result (Flushed local.old local.new core.old core.new) }
+    ensures room { OnOk result (core.new.journal.owed + more ≤ core.new.journal.spare) }
+    ensures err { OnErr result (Untouched local.old local.new core.old core.new) }
+    ensures legal { Legal core.new.heap.options core.new.journal.entries }
+    ensures state { IsCore core.new }
+{
+    if local.pending().is_empty() {
+        take_room(local, core, more)
+    } else {
+        publish_waiting(local, core, more)
+    }
 }
 
 /// Publishes what waits. NoMemory leaves all as it was. O(waiting entries, and what changed since the last publication)

@@ -6,7 +6,7 @@ use Rattle.zone_escape.specs.Cores.{CoreShown, IsCore, IsCoreOf, BelongsTo}
 use Rattle.zone_escape.specs.Publications.{Flushed}
 use Rattle.zone_escape.proofs.Cores.{core_legal}
 use Rattle.zone_escape.proofs.Published.{flushed}
-use Rattle.zone_escape.proofs.publishing.publish.Goals as goal
+use Rattle.zone_escape.proofs.publishing.publish_waiting.Goals as goal
 
 pub invariant_of-core : goal.invariant_of-core
 invariant_of-core c = subst (λ (j : Recorded). IsCore (record { heap = c.core.inside.heap; journal = j })) (sym c.in_err-reserve.ensures.err) c.core.invariant
