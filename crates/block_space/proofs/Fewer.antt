@@ -9,15 +9,15 @@ use Rattle.block_layouts.specs.Layouts.{len_of}
 use Rattle.quantum_space.specs.declared.place.Place.{Place}
 use Rattle.quantum_space.specs.declared.placed.PlacedWord.{PlacedWord}
 use Rattle.quantum_space.specs.declared.placed.PlacedWord.TheVariants as word
-use Rattle.quantum_space.specs.PlacedWords.{known, known_number}
+use Rattle.quantum_space.specs.PlacedWords.{known, spot_at}
 use Rattle.quantum_space.specs.Regions.{HasBlock, IsFreed, Region', no_id}
 use Rattle.quantum_space.proofs.Runs.{below_or}
 use Rattle.quantum_space.proofs.Placing.{row_le, some_quanta, word_inside}
-use Rattle.block_space.specs.declared.space.Spot.{Spot}
-use Rattle.block_space.specs.declared.table.Kind.{Kind}
-use Rattle.block_space.specs.declared.table.Kind.TheVariants as kind
+use Rattle.quantum_space.specs.declared.spot.Spot.{Spot}
+use Rattle.quantum_space.specs.declared.spot.Kind.{Kind}
+use Rattle.quantum_space.specs.declared.spot.Kind.TheVariants as kind
 use Rattle.block_space.specs.Tables.{Table', numbers, subzone_of}
-use Rattle.block_space.specs.Spaces.{AreRight, BeginsAt, IsFreedAt, IsRight, IsSpace, IsTakenOff, IsWhole, Space', layout_at, number_spot, of_kind, placed_at, region, size_of, space_of, spot_at, spot_in, spot_of}
+use Rattle.block_space.specs.Spaces.{AreRight, BeginsAt, IsFreedAt, IsRight, IsSpace, IsTakenOff, IsWhole, Space', layout_at, placed_at, region, size_of, space_of, spot_in, spot_of}
 use Rattle.block_space.specs.Maps.{HasBlockLess, HasBlocksLess, IsSound, LeadsTo, MayBeTakenOff, MayFree}
 use Rattle.block_space.proofs.Keeping.{kept, kind_freed}
 use Rattle.block_space.proofs.Mapping.{kind_cases, layout_spot, some_spot, spot_from, taken_off, word_spot}
@@ -166,14 +166,6 @@ space_freed mid new p inv off = go (layout_at mid p) refl off
 
 -- words that stay are right about where their blocks lie
 module _ (s cur : Space') (ps : List Place) (sound : IsSound s) (may : MayFree s ps) (less : HasBlocksLess s cur ps) (few : Fewer s ps cur) where
-  by_kind : (k : Kind) (at : ℕ) (id : BlockId) → BeginsAt (of_kind k s.small.layouts s.medium.layouts) (of_kind k s.small.ids s.medium.ids) at id → BeginsAt (region s k).layouts (region s k).ids at id
-  by_kind kind.Small at id h = h
-  by_kind kind.Medium at id h = h
-
-  back : (k : Kind) (at : ℕ) (id : BlockId) → BeginsAt (region cur k).layouts (region cur k).ids at id → BeginsAt (of_kind k cur.small.layouts cur.medium.layouts) (of_kind k cur.small.ids cur.medium.ids) at id
-  back kind.Small at id h = h
-  back kind.Medium at id h = h
-
   -- a block to which a word that stays leads has not gone
   begins_on : (k : Kind) (at : ℕ) (id : BlockId) → ((o : Layout) → get_or (region s k).layouts at None ≡ Some o → get_or (region cur k).layouts at None ≢ None) → BeginsAt (region s k).layouts (region s k).ids at id → BeginsAt (region cur k).layouts (region cur k).ids at id
   begins_on k at id stays h = go (get_or (region s k).layouts at None) refl h
@@ -205,16 +197,14 @@ module _ (s cur : Space') (ps : List Place) (sound : IsSound s) (may : MayFree s
     leads_not : (p : Place) → Contains ps p → ¬ LeadsTo s (get_or (region s k).words (at * (region s k).width + i) word.Null) p
     leads_not p c = subst (λ (w : PlacedWord). ¬ LeadsTo s w p) (word_spot s home.0 (spot_at k at) i home.1) (may.apart home.0 l i (layout_spot s home.0 (spot_at k at) home.1 ∙ was) stays_there lt p c)
 
+    stays_right : (c : Kind) (j : ℕ) (id : BlockId) → ((p : Place) → Contains ps p → spot_of s p ≢ Some (spot_at c j)) → BeginsAt (region s c).layouts (region s c).ids j id → BeginsAt (region cur c).layouts (region cur c).ids j id
+    stays_right c j id f = begins_on c j id (λ o e none. (let gone = few.gone c j o e none in f gone.0 gone.1 gone.2))
+
     right_by : (w : PlacedWord) → ((p : Place) → Contains ps p → ¬ LeadsTo s w p) → IsRight s.small.layouts s.medium.layouts s.small.ids s.medium.ids w → IsRight cur.small.layouts cur.medium.layouts cur.small.ids cur.medium.ids w
     right_by word.Null f h = h
-    right_by (word.Block id n) f h = go (known_number n) f h
-      where
-        go : (m : Option ℕ) → ((p : Place) → Contains ps p → ¬ MatchOption m ⊥ (λ j. spot_of s p ≡ Some (number_spot j)))
-            → MatchOption m ⊤ (λ j. BeginsAt (of_kind (number_spot j).kind s.small.layouts s.medium.layouts) (of_kind (number_spot j).kind s.small.ids s.medium.ids) (number_spot j).at id)
-            → MatchOption m ⊤ (λ j. BeginsAt (of_kind (number_spot j).kind cur.small.layouts cur.medium.layouts) (of_kind (number_spot j).kind cur.small.ids cur.medium.ids) (number_spot j).at id)
-        go None g h = h
-        go (Some j) g h = back (number_spot j).kind (number_spot j).at id
-            (begins_on (number_spot j).kind (number_spot j).at id (λ o e none. (let gone = few.gone (number_spot j).kind (number_spot j).at o e none in g gone.0 gone.1 gone.2)) (by_kind (number_spot j).kind (number_spot j).at id h))
+    right_by (word.Block id) f h = h
+    right_by (word.InSmall id j) f h = stays_right kind.Small j id f h
+    right_by (word.InMedium id j) f h = stays_right kind.Medium j id f h
     right_by (word.Number n) f h = h
 
     right_here : AreRight (region s k) s.small s.medium → IsRight cur.small.layouts cur.medium.layouts cur.small.ids cur.medium.ids (get_or (region cur k).words (at * (region cur k).width + i) word.Null)
@@ -234,7 +224,7 @@ leads_nowhere s sound small medium ps q o i e d lt p c leads =
     let x = some_spot s q o e in
     let inside = word_inside (region s x.0.kind) x.0.at i (sound.regions x.0.kind) (subst (λ (m : Option Layout). MatchOption m ⊥ (λ l. i < len_of l)) (sym x.2) lt) in
     let none : known (placed_at s q i) ≡ None = ap known (word_spot s q x.0 i x.1) ∙ by_kind x.0.kind (x.0.at * (region s x.0.kind).width + i) inside in
-    subst (λ (m : Option ℕ). MatchOption m ⊥ (λ n. spot_of s p ≡ Some (number_spot n))) none leads
+    subst (λ (m : Option Spot). MatchOption m ⊥ (λ x. spot_of s p ≡ Some x)) none leads
   where
     by_kind : (k : Kind) (j : ℕ) → j < length (region s k).words → known (get_or (region s k).words j word.Null) ≡ None
     by_kind kind.Small j l = small j l

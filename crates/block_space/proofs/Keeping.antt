@@ -8,8 +8,8 @@ use Rattle.quantum_space.specs.declared.place.Place.{Place}
 use Rattle.quantum_space.specs.AdminMaps.{AdminMap'}
 use Rattle.quantum_space.specs.Regions.{Region', HasBlock, IsFreed, IsPlaced, IsRoomier, quanta_in, room_of}
 use Rattle.quantum_space.proofs.Placing.{roomier_itself, roomier_more, row_le, some_quanta}
-use Rattle.block_space.specs.declared.table.Kind.{Kind}
-use Rattle.block_space.specs.declared.table.Kind.TheVariants as kind
+use Rattle.quantum_space.specs.declared.spot.Kind.{Kind}
+use Rattle.quantum_space.specs.declared.spot.Kind.TheVariants as kind
 use Rattle.block_space.specs.Tables.{Table', numbers, opened_with}
 use Rattle.block_space.specs.Spaces.{Space', AreLengths, IsCovered, IsPlacedIn, IsRoomierSpace, IsSpace, altered, block_quanta, kind_length, kind_of, kind_quanta, list_quanta, other, region, size_of, width_of}
 use Rattle.block_space.proofs.Opening.{length_end}

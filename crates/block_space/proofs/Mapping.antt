@@ -10,12 +10,13 @@ use Rattle.quantum_space.specs.declared.place.Place.{Place}
 use Rattle.quantum_space.specs.Regions.{Region', HasBlock, IsRegion, no_id}
 use Rattle.quantum_space.proofs.Cursors.{one_row}
 use Rattle.quantum_space.proofs.Placing.{some_quanta}
-use Rattle.block_space.specs.declared.space.Spot.{Spot}
-use Rattle.block_space.specs.declared.table.Kind.{Kind}
-use Rattle.block_space.specs.declared.table.Kind.TheVariants as kind
+use Rattle.quantum_space.specs.declared.spot.Spot.{Spot}
+use Rattle.quantum_space.specs.declared.spot.Kind.{Kind}
+use Rattle.quantum_space.specs.declared.spot.Kind.TheVariants as kind
+use Rattle.quantum_space.specs.PlacedWords.{spot_at}
 use Rattle.block_space.specs.declared.table.Subzone.{Subzone}
 use Rattle.block_space.specs.Tables.{Table', IsTable, numbers, opened_with, subzone_of}
-use Rattle.block_space.specs.Spaces.{Space', HasBlockAt, IsFreedAt, IsPlacedAt, IsSpace, IsTakenOff, byte_at, id_at, kind_of, layout_at, other, region, size_of, spot_at, spot_in, spot_of, placed_at}
+use Rattle.block_space.specs.Spaces.{Space', HasBlockAt, IsFreedAt, IsPlacedAt, IsSpace, IsTakenOff, byte_at, id_at, kind_of, layout_at, other, region, size_of, spot_in, spot_of, placed_at}
 use Rattle.block_space.specs.Maps.{HasBlockLess, HasBlockMore, IsSameBlock, IsSound}
 use Rattle.block_space.proofs.Keeping.{stored_block, unopened_both}
 use Rattle.block_space.proofs.Opening.{end_cases, get_front, table_opened}

@@ -9,9 +9,9 @@ use Rattle.quantum_space.specs.declared.shade.Shade.TheVariants as shade
 use Rattle.quantum_space.specs.AdminBytes.{admin_of, aged, whitened, with_age, with_shade}
 use Rattle.quantum_space.specs.Regions.{IsFirstByte, IsRenotedRegion, Region', no_id, room_of}
 use Rattle.quantum_space.proofs.Noting.{aged_tells, white_tells}
-use Rattle.block_space.specs.declared.space.Spot.{Spot}
-use Rattle.block_space.specs.declared.table.Kind.{Kind}
-use Rattle.block_space.specs.declared.table.Kind.TheVariants as kind
+use Rattle.quantum_space.specs.declared.spot.Spot.{Spot}
+use Rattle.quantum_space.specs.declared.spot.Kind.{Kind}
+use Rattle.quantum_space.specs.declared.spot.Kind.TheVariants as kind
 use Rattle.block_space.specs.Tables.{Table', numbers}
 use Rattle.block_space.specs.Spaces.{IsCovered, IsRenotedSpace, IsSpace, Space', admin_at, block_quanta, byte_at, kind_quanta, layout_at, region, size_of, spot_in, spot_of, width_of}
 use Rattle.block_space.specs.Maps.{AreNoted, IsSound}

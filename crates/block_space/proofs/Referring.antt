@@ -8,15 +8,15 @@ use Rattle.block_layouts.specs.Layouts.{len_of}
 use Rattle.quantum_space.specs.declared.place.Place.{Place}
 use Rattle.quantum_space.specs.declared.placed.PlacedWord.{PlacedWord}
 use Rattle.quantum_space.specs.declared.placed.PlacedWord.TheVariants as word
-use Rattle.quantum_space.specs.PlacedWords.{known, word_of}
+use Rattle.quantum_space.specs.PlacedWords.{known, spot_at, word_of}
 use Rattle.quantum_space.specs.Regions.{HasBlock, HasWord, no_id}
 use Rattle.quantum_space.proofs.Runs.{below_or}
 use Rattle.quantum_space.proofs.Placing.{row_le}
-use Rattle.block_space.specs.declared.space.Spot.{Spot}
-use Rattle.block_space.specs.declared.table.Kind.{Kind}
-use Rattle.block_space.specs.declared.table.Kind.TheVariants as kind
+use Rattle.quantum_space.specs.declared.spot.Spot.{Spot}
+use Rattle.quantum_space.specs.declared.spot.Kind.{Kind}
+use Rattle.quantum_space.specs.declared.spot.Kind.TheVariants as kind
 use Rattle.block_space.specs.Tables.{numbers, subzone_of}
-use Rattle.block_space.specs.Spaces.{AreRight, BeginsAt, HasBlockAt, HasWordAt, IsRight, IsWhole, Space', id_at, number_spot, of_kind, placed_at, region, size_of, spot_at, spot_of}
+use Rattle.block_space.specs.Spaces.{AreRight, BeginsAt, HasBlockAt, HasWordAt, IsRight, IsWhole, Space', id_at, placed_at, region, size_of, spot_of}
 use Rattle.block_space.specs.Maps.{IsSound}
 use Rattle.block_space.proofs.Keeping.{stored_block}
 use Rattle.block_space.proofs.Mapping.{id_spot, spot_from, word_spot}
@@ -80,21 +80,19 @@ pub record Knows (s : Space') (w : PlacedWord) (x : Spot) : Type 0 where
   pub block : HasBlock (region s x.kind) x.at
   pub here : get_or (region s x.kind).ids x.at no_id ≡ id
 
-begins_knows : (s : Space') (w : PlacedWord) (x : Spot) (id : BlockId) → word_of w ≡ plain.Block id → BeginsAt (of_kind x.kind s.small.layouts s.medium.layouts) (of_kind x.kind s.small.ids s.medium.ids) x.at id → Knows s w x
-begins_knows s w x id e h = (let b = by_kind x.kind x.at h in record { id = id; word = e; block = b.0; here = b.1 })
+begins_knows : (s : Space') (w : PlacedWord) (x : Spot) (id : BlockId) → word_of w ≡ plain.Block id → BeginsAt (region s x.kind).layouts (region s x.kind).ids x.at id → Knows s w x
+begins_knows s w x id e h = (let b = parts (get_or (region s x.kind).layouts x.at None) (get_or (region s x.kind).ids x.at no_id) h in record { id = id; word = e; block = b.0; here = b.1 })
   where
     parts : (m : Option Layout) (n : BlockId) → MatchOption m ⊥ (λ l. n ≡ id) → (MatchOption m ⊥ (λ l. ⊤)) × (n ≡ id)
     parts None n h = absurd h
     parts (Some l) n h = (tt, h)
 
-    by_kind : (k : Kind) (at : ℕ) → BeginsAt (of_kind k s.small.layouts s.medium.layouts) (of_kind k s.small.ids s.medium.ids) at id → HasBlock (region s k) at × (get_or (region s k).ids at no_id ≡ id)
-    by_kind kind.Small at h = parts (get_or s.small.layouts at None) (get_or s.small.ids at no_id) h
-    by_kind kind.Medium at h = parts (get_or s.medium.layouts at None) (get_or s.medium.ids at no_id) h
-
-pub knows : (s : Space') (w : PlacedWord) (n : ℕ) → IsRight s.small.layouts s.medium.layouts s.small.ids s.medium.ids w → known w ≡ Some n → Knows s w (number_spot n)
-knows s word.Null n h e = cc
-knows s (word.Block id m) n h e = begins_knows s (word.Block id m) (number_spot n) id refl (subst (λ (o : Option ℕ). MatchOption o ⊤ (λ j. BeginsAt (of_kind (number_spot j).kind s.small.layouts s.medium.layouts) (of_kind (number_spot j).kind s.small.ids s.medium.ids) (number_spot j).at id)) e h)
-knows s (word.Number m) n h e = cc
+pub knows : (s : Space') (w : PlacedWord) (x : Spot) → IsRight s.small.layouts s.medium.layouts s.small.ids s.medium.ids w → known w ≡ Some x → Knows s w x
+knows s word.Null x h e = cc
+knows s (word.Block id) x h e = cc
+knows s (word.InSmall id at) x h e = (let f : spot_at kind.Small at ≡ x = cc in subst (λ (y : Spot). Knows s (word.InSmall id at) y) f (begins_knows s (word.InSmall id at) (spot_at kind.Small at) id refl h))
+knows s (word.InMedium id at) x h e = (let f : spot_at kind.Medium at ≡ x = cc in subst (λ (y : Spot). Knows s (word.InMedium id at) y) f (begins_knows s (word.InMedium id at) (spot_at kind.Medium at) id refl h))
+knows s (word.Number m) x h e = cc
 
 pub refers : (s : Space') (w : PlacedWord) (x : Spot) (q : Place) → Knows s w x → spot_of s q ≡ Some x → HasBlockAt s q × (word_of w ≡ plain.Block (id_at s q))
 refers s w x q k e = (

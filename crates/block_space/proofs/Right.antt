@@ -1,6 +1,5 @@
 -- Words that know where their blocks lie
 use Rattle.std.proofs.Common.{MatchOption, ◌≡◌, inl, inr, ℕ, zero, suc, ◌+◌, ◌*◌, ◌<◌, List, [], ◌∷◌, Option, Some, None, refl, sym, ap, ◌∙◌, subst, get_or, set, get_or-set_same}
-use Rattle.std.specs.Bool.{⊤}
 use Rattle.az_base.specs.declared.block_id.BlockId.{BlockId}
 use Rattle.az_base.specs.declared.word.Class.{Class}
 use Rattle.az_base.specs.declared.word.Class.TheVariants as class
@@ -10,12 +9,12 @@ use Rattle.block_layouts.specs.declared.layout.Layout.{Layout}
 use Rattle.block_layouts.specs.Layouts.{class_at, len_of}
 use Rattle.quantum_space.specs.declared.placed.PlacedWord.{PlacedWord}
 use Rattle.quantum_space.specs.declared.placed.PlacedWord.TheVariants as word
-use Rattle.quantum_space.specs.PlacedWords.{known_number, unplaced}
-use Rattle.quantum_space.specs.Regions.{IsPlaced, IsRegion, IsRenotedRegion, IsRoomier, Region', new_word, no_id, with_word}
-use Rattle.block_space.specs.declared.table.Kind.{Kind}
-use Rattle.block_space.specs.declared.table.Kind.TheVariants as kind
+use Rattle.quantum_space.specs.PlacedWords.{unplaced}
+use Rattle.quantum_space.specs.Regions.{IsPlaced, IsRegion, IsRenotedRegion, IsRoomier, Region', new_word, no_id, with_byte, with_word}
+use Rattle.quantum_space.specs.declared.spot.Kind.{Kind}
+use Rattle.quantum_space.specs.declared.spot.Kind.TheVariants as kind
 use Rattle.block_space.specs.Tables.{Table'}
-use Rattle.block_space.specs.Spaces.{AreRight, BeginsAt, IsRight, IsSpace, IsWhole, Space', altered, number_spot, of_kind, other, region, space_of}
+use Rattle.block_space.specs.Spaces.{AreRight, BeginsAt, IsRight, IsSpace, IsWhole, Space', altered, other, region, space_of}
 use Rattle.block_space.proofs.Keeping.{IsKind, kept, unopened_both}
 use Rattle.block_space.proofs.Still.{placed_only, placed_still}
 
@@ -41,18 +40,11 @@ begins_still r new at id keeps h = go (get_or r.layouts at None) refl h
 
 -- a word that was right is right where the blocks are kept
 module _ (a b c d : Region') (small : Keeps a c) (medium : Keeps b d) where
-  begins_of : (k : Kind) (at : ℕ) (id : BlockId) → BeginsAt (of_kind k a.layouts b.layouts) (of_kind k a.ids b.ids) at id → BeginsAt (of_kind k c.layouts d.layouts) (of_kind k c.ids d.ids) at id
-  begins_of kind.Small at id h = begins_still a c at id small h
-  begins_of kind.Medium at id h = begins_still b d at id medium h
-
   pub right_still : (w : PlacedWord) → IsRight a.layouts b.layouts a.ids b.ids w → IsRight c.layouts d.layouts c.ids d.ids w
   right_still word.Null h = h
-  right_still (word.Block id n) h = go (known_number n) h
-    where
-      go : (m : Option ℕ) → MatchOption m ⊤ (λ j. BeginsAt (of_kind (number_spot j).kind a.layouts b.layouts) (of_kind (number_spot j).kind a.ids b.ids) (number_spot j).at id)
-          → MatchOption m ⊤ (λ j. BeginsAt (of_kind (number_spot j).kind c.layouts d.layouts) (of_kind (number_spot j).kind c.ids d.ids) (number_spot j).at id)
-      go None f = f
-      go (Some j) f = begins_of (number_spot j).kind (number_spot j).at id f
+  right_still (word.Block id) h = h
+  right_still (word.InSmall id at) h = begins_still a c at id small h
+  right_still (word.InMedium id at) h = begins_still b d at id medium h
   right_still (word.Number n) h = h
 
   pub rights_still : (r new : Region') → Keeps r new → HasNoOther r new → AreRight r a b → AreRight new c d
@@ -201,4 +193,34 @@ written_medium s at i w inv right = record {
   space = kept s kind.Medium (with_word s.medium at i w) s.table s.spare s.used inv.space (kind_written s kind.Medium at i w inv.space);
   small = inv.small;
   medium = rights_written s.medium s.small s.medium at i w right inv.medium;
+}
+
+-- another admin byte for a block
+kind_noted : (s : Space') (k : Kind) (at byte : ℕ) → IsSpace s → IsKind s k (with_byte (region s k) at byte) s.table s.spare s.used
+kind_noted s k at byte inv = record {
+  opened = inv.opened k;
+  other_opened = inv.opened (other k);
+  size = refl;
+  width = refl;
+  used = refl;
+  few = inv.few;
+  lengths = inv.lengths;
+  covered = inv.covered k;
+  other_covered = inv.covered (other k);
+  unopened = unopened_both s k inv;
+  rooms = inv.rooms;
+}
+
+pub noted_small : (s : Space') (at byte : ℕ) → IsWhole s → IsWhole (altered s kind.Small (with_byte s.small at byte) s.table s.spare s.used)
+noted_small s at byte inv = record {
+  space = kept s kind.Small (with_byte s.small at byte) s.table s.spare s.used inv.space (kind_noted s kind.Small at byte inv.space);
+  small = inv.small;
+  medium = inv.medium;
+}
+
+pub noted_medium : (s : Space') (at byte : ℕ) → IsWhole s → IsWhole (altered s kind.Medium (with_byte s.medium at byte) s.table s.spare s.used)
+noted_medium s at byte inv = record {
+  space = kept s kind.Medium (with_byte s.medium at byte) s.table s.spare s.used inv.space (kind_noted s kind.Medium at byte inv.space);
+  small = inv.small;
+  medium = inv.medium;
 }

@@ -6,8 +6,8 @@ use Rattle.block_layouts.specs.declared.layout.Layout.{Layout}
 use Rattle.block_layouts.specs.Layouts.{len_of, quanta}
 use Rattle.quantum_space.specs.Regions.{quanta_in}
 use Rattle.quantum_space.proofs.Runs.{below_or}
-use Rattle.block_space.specs.declared.table.Kind.{Kind}
-use Rattle.block_space.specs.declared.table.Kind.TheVariants as kind
+use Rattle.quantum_space.specs.declared.spot.Kind.{Kind}
+use Rattle.quantum_space.specs.declared.spot.Kind.TheVariants as kind
 use Rattle.block_space.specs.Spaces.{AreLengths, block_quanta, kind_length, kind_of, kind_quanta, list_quanta, width_of, other}
 
 abbrev pub layout_quanta : Option Layout → ℕ

@@ -10,9 +10,9 @@ use Rattle.quantum_space.specs.declared.placed.PlacedWord.{PlacedWord}
 use Rattle.quantum_space.specs.declared.placed.PlacedWord.TheVariants as placed
 use Rattle.quantum_space.specs.PlacedWords.{known}
 use Rattle.quantum_space.specs.Regions.{IsRegion, Region', new_byte, new_word}
-use Rattle.block_space.specs.declared.table.Kind.{Kind}
+use Rattle.quantum_space.specs.declared.spot.Kind.{Kind}
 use Rattle.block_space.specs.Tables.{IsTable, Table'}
-use Rattle.block_space.specs.Spaces.{Space', HasBlockAt, IsSpace, IsTakenOff, admin_at, byte_at, id_at, layout_at, number_spot, placed_at, region, space_of, spot_of, word_at}
+use Rattle.block_space.specs.Spaces.{Space', HasBlockAt, IsSpace, IsTakenOff, admin_at, byte_at, id_at, layout_at, placed_at, region, space_of, spot_of, word_at}
 
 -- what holds of each space and of its parts
 pub record IsSound (s : Space') : Type 0 where
@@ -56,7 +56,7 @@ RefersTo s p i q = HasBlockAt s q × (word_at s p i ≡ plain.Block (id_at s q))
 
 -- the word knows that its block lies at the place
 abbrev pub LeadsTo : Space' → PlacedWord → Place → Type 0
-LeadsTo s w p = MatchOption (known w) ⊥ (λ n. spot_of s p ≡ Some (number_spot n))
+LeadsTo s w p = MatchOption (known w) ⊥ (λ x. spot_of s p ≡ Some x)
 
 -- no word of a subzone knows where its block lies
 pub record KnowsNone (s : Space') : Type 0 where

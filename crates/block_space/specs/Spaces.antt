@@ -1,11 +1,11 @@
 -- Blocks at their places
-use Rattle.std.specs.Prelude.{◌≡◌, ℕ, ◌+◌, ◌-◌, ◌*◌, ◌<◌, ◌≤◌, ◌⊎◌, ◌^◌, ◌∷◌, [], List, Option, Some, None, get_or, slice_get, length, if◌then◌else◌, nat_le, nat_lt, ◌/◌, ◌%◌, ◌==◌, ⊤, MatchOption, IfSome, Bool, true, drop}
+use Rattle.std.specs.Prelude.{◌≡◌, ℕ, ◌+◌, ◌-◌, ◌*◌, ◌<◌, ◌≤◌, ◌⊎◌, ◌^◌, ◌∷◌, [], List, Option, Some, None, get_or, slice_get, length, if◌then◌else◌, nat_le, nat_lt, ⊤, MatchOption, IfSome, Bool, true, drop}
 use Rattle.std.specs.Option.{option_and_then, option_map_or}
 use Rattle.az_base.specs.declared.block_id.BlockId.{BlockId}
 use Rattle.az_base.specs.declared.word.Word.{Word}
 use Rattle.quantum_space.specs.declared.placed.PlacedWord.{PlacedWord}
 use Rattle.quantum_space.specs.declared.placed.PlacedWord.TheVariants as word
-use Rattle.quantum_space.specs.PlacedWords.{known_number, unknown, word_of}
+use Rattle.quantum_space.specs.PlacedWords.{knowing, spot_at, word_of}
 use Rattle.block_layouts.specs.declared.layout.Layout.{Layout}
 use Rattle.block_layouts.specs.Layouts.{len_of, quanta}
 use Rattle.quantum_space.specs.declared.admin.Admin.{Admin}
@@ -13,9 +13,9 @@ use Rattle.quantum_space.specs.declared.place.Place.{Place}
 use Rattle.quantum_space.specs.AdminBytes.{admin_byte, admin_of}
 use Rattle.quantum_space.specs.AdminMaps.{subzone_bytes}
 use Rattle.quantum_space.specs.Regions.{Region', HasBlock, HasWord, IsFreed, IsPlaced, IsRenotedRegion, IsRoomier, no_id, quanta_in, room_of, with_byte, with_word}
-use Rattle.block_space.specs.declared.space.Spot.{Spot}
-use Rattle.block_space.specs.declared.table.Kind.{Kind}
-use Rattle.block_space.specs.declared.table.Kind.TheVariants as kind
+use Rattle.quantum_space.specs.declared.spot.Spot.{Spot}
+use Rattle.quantum_space.specs.declared.spot.Kind.{Kind}
+use Rattle.quantum_space.specs.declared.spot.Kind.TheVariants as kind
 use Rattle.block_space.specs.declared.table.Subzone.{Subzone}
 use Rattle.block_space.specs.Tables.{Table', numbers, opened_with}
 
@@ -50,10 +50,6 @@ region s kind.Medium = s.medium
 abbrev pub with_region : Space' → Kind → Region' → Space'
 with_region s kind.Small r = record { small = r; medium = s.medium; table = s.table; spare = s.spare; used = s.used }
 with_region s kind.Medium r = record { small = s.small; medium = r; table = s.table; spare = s.spare; used = s.used }
-
--- a quantum of a kind
-abbrev pub spot_at : Kind → ℕ → Spot
-spot_at k at = record { kind = k; at = at }
 
 -- a quantum of a subzone, counted over all subzones of its kind; None past the subzone's end
 abbrev pub spot_in : Subzone → ℕ → Option Spot
@@ -217,27 +213,9 @@ pub record IsRenotedSpace (f : ℕ → ℕ) (s new : Space') : Type 0 where
 abbrev pub IsSubzoneMap : Space' → ℕ → List ℕ → Type 0
 IsSubzoneMap s n bytes = MatchOption (slice_get s.table.subzones n) ⊥ (λ z. bytes ≡ subzone_bytes (region s z.kind).map z.index)
 
--- the number of a kind's quantum among those of both kinds
-abbrev pub number_in : Kind → ℕ → ℕ
-number_in kind.Small at = 2 * at
-number_in kind.Medium at = 2 * at + 1
-
--- the number that tells in words where a block lies
-abbrev pub spot_number : Spot → ℕ
-spot_number x = if nat_lt x.at 2147483647 then number_in x.kind x.at else unknown
-
--- where the block lies that a number tells
-abbrev pub number_spot : ℕ → Spot
-number_spot n = spot_at (if n % 2 == 0 then kind.Small else kind.Medium) (n / 2)
-
 -- a reference to the block at a place, which knows where it lies
 abbrev pub reference : Space' → Place → PlacedWord
-reference s p = option_map_or (λ x. word.Block (get_or (region s x.kind).ids x.at no_id) (spot_number x)) (spot_of s p) word.Null
-
--- a kind's one of two
-abbrev pub of_kind : {X : Type 0} → Kind → X → X → X
-of_kind kind.Small a b = a
-of_kind kind.Medium a b = b
+reference s p = option_map_or (λ x. knowing (get_or (region s x.kind).ids x.at no_id) x) (spot_of s p) word.Null
 
 -- a block with this id begins at this quantum
 abbrev pub BeginsAt : List (Option Layout) → List BlockId → ℕ → BlockId → Type 0
@@ -246,8 +224,9 @@ BeginsAt layouts ids at id = MatchOption (get_or layouts at None) ⊥ (λ l. get
 -- where a word of small and medium blocks knows that its block lies, there it lies
 abbrev pub IsRight : List (Option Layout) → List (Option Layout) → List BlockId → List BlockId → PlacedWord → Type 0
 IsRight ls ms is js word.Null = ⊤
-IsRight ls ms is js (word.Block id n) =
-    MatchOption (known_number n) ⊤ (λ m. BeginsAt (of_kind (number_spot m).kind ls ms) (of_kind (number_spot m).kind is js) (number_spot m).at id)
+IsRight ls ms is js (word.Block id) = ⊤
+IsRight ls ms is js (word.InSmall id at) = BeginsAt ls is at id
+IsRight ls ms is js (word.InMedium id at) = BeginsAt ms js at id
 IsRight ls ms is js (word.Number n) = ⊤
 
 -- so it is for each word of the blocks of a region, where the blocks are those of two regions

@@ -26,8 +26,7 @@
 
 mod space;
 mod spare;
-mod spot_number;
 mod table;
 
-pub use space::{Space, Spot};
-pub use table::{Kind, Subzone, Table};
+pub use space::Space;
+pub use table::{Subzone, Table};

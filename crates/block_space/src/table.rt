@@ -4,15 +4,9 @@ ghost use Rattle.block_space.specs.Tables.{Table', numbers, opened_with, with_ro
 ghost use Rattle.std.specs.Vec.{vec_capacity};
 
 use az_base::NoMemory;
+use quantum_space::Kind;
 use std::alloc::Global;
 use std::marker::Model;
-
-/// The two kinds of subzones: those of small quanta, and those of medium ones.
-#[derive(Clone, Copy, PartialEq, Eq)]
-pub enum Kind {
-    Small,
-    Medium,
-}
 
 /// Which of its kind's subzones one is, in the order in which these were opened.
 #[derive(Clone, Copy)]

@@ -22,6 +22,7 @@ mod place;
 mod placed;
 mod region;
 mod shade;
+mod spot;
 
 pub use admin::{
     Admin, AdminFlags, aged_bytes_tell_the_rest, bytes_tell_what_was_noted,
@@ -30,6 +31,7 @@ pub use admin::{
 pub use graph::{Found, Graph};
 pub use greys::Greys;
 pub use place::{Place, places_are_ordered_by_subzone};
-pub use placed::{PlacedWord, UNKNOWN};
+pub use placed::PlacedWord;
 pub use region::{Region, blocks_lie_apart, quanta_in};
 pub use shade::Shade;
+pub use spot::{Kind, Spot};

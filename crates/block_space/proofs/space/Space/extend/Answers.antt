@@ -1,5 +1,5 @@
 use Rattle.std.proofs.Common.{◌+◌, ◌<◌, ◌^◌, sym, subst, ℕ, List}
-use Rattle.block_space.specs.declared.table.Kind.{Kind}
+use Rattle.quantum_space.specs.declared.spot.Kind.{Kind}
 use Rattle.block_space.specs.Spaces.{Space', IsCovered, IsRoomierSpace, IsSpace, kind_quanta, list_quanta, region}
 use Rattle.block_space.proofs.Keeping.{more_come, roomier_spare}
 use Rattle.block_space.proofs.space.Space.extend.Goals.{in-Ok, in-Err}

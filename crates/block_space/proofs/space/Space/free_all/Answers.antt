@@ -1,7 +1,7 @@
 use Rattle.std.proofs.Common.{◌≡◌, [], List, take, sym, subst, arith}
 use Rattle.quantum_space.specs.declared.place.Place.{Place}
 use Rattle.quantum_space.specs.Regions.{IsRegion}
-use Rattle.block_space.specs.declared.table.Kind.TheVariants as kind
+use Rattle.quantum_space.specs.declared.spot.Kind.TheVariants as kind
 use Rattle.block_space.specs.Tables.{IsTable}
 use Rattle.block_space.specs.Spaces.{IsWhole, Space', space_of}
 use Rattle.block_space.specs.Maps.{AreTakenOff, HasBlocksLess, IsSound}

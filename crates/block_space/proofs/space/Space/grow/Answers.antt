@@ -1,5 +1,5 @@
 use Rattle.std.proofs.Common.{arith, ap}
-use Rattle.block_space.specs.declared.table.Kind.TheVariants as kind
+use Rattle.quantum_space.specs.declared.spot.Kind.TheVariants as kind
 use Rattle.block_space.specs.Tables.{Table', numbers}
 use Rattle.block_space.proofs.Keeping.{kept, kind_grown}
 use Rattle.block_space.proofs.Right.{keeps_roomier, none_roomier, whole_medium, whole_small}

@@ -1,7 +1,7 @@
 use Rattle.std.proofs.Common.{List, subst, sym}
 use Rattle.quantum_space.specs.declared.place.Place.{Place}
 use Rattle.block_space.specs.Maps.{IsSound, KnowsNone, MayFree}
-use Rattle.block_space.specs.declared.table.Kind.TheVariants as kind
+use Rattle.quantum_space.specs.declared.spot.Kind.TheVariants as kind
 use Rattle.block_space.specs.Spaces.{Space', space_of}
 use Rattle.block_space.proofs.Fewer.{nothing_leads}
 use Rattle.block_space.proofs.space.Space.knows_no_place.Goals as goal

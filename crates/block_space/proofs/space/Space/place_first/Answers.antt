@@ -1,7 +1,7 @@
 use Rattle.std.proofs.Common.{◌≡◌, ◌≤◌, arith, ap, sym, subst, Some, slice_get, ◌∙◌}
 use Rattle.block_layouts.specs.Layouts.{len_of}
 use Rattle.quantum_space.specs.Regions.{IsRegion, quanta_in}
-use Rattle.block_space.specs.declared.table.Kind.TheVariants as kind
+use Rattle.quantum_space.specs.declared.spot.Kind.TheVariants as kind
 use Rattle.block_space.specs.Spaces.{Space', kind_of}
 use Rattle.block_space.proofs.Keeping.{first_room, placed_kept}
 use Rattle.block_space.proofs.Right.{more_medium, more_small}

@@ -1,5 +1,5 @@
 use Rattle.std.proofs.Common.{◌+◌, ap, sym, ◌∙◌}
-use Rattle.block_space.specs.declared.table.Kind.TheVariants as kind
+use Rattle.quantum_space.specs.declared.spot.Kind.TheVariants as kind
 use Rattle.block_space.specs.Spaces.{Space', kind_quanta}
 use Rattle.block_space.proofs.Keeping.{both_covered, roomier_space_more}
 use Rattle.block_space.proofs.space.Space.reserve.Goals as goal

@@ -1,5 +1,5 @@
 use Rattle.std.proofs.Common.{◌<◌, arith, ap, subst, sym, length}
-use Rattle.block_space.specs.declared.table.Kind.TheVariants as kind
+use Rattle.quantum_space.specs.declared.spot.Kind.TheVariants as kind
 use Rattle.block_space.specs.Tables.{Table', subzone_of}
 use Rattle.block_space.proofs.Opening.{medium_pushed, length_end}
 use Rattle.block_space.proofs.table.Table.open_medium.Goals as goal

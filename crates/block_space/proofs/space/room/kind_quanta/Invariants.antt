@@ -1,6 +1,6 @@
 use Rattle.std.proofs.Common.{◌≡◌, ◌≤◌, ◌+◌, drop}
 use Rattle.block_space.specs.Spaces.{kind_quanta, list_quanta}
-use Rattle.block_space.proofs.space.kind_quanta.Given as goal
+use Rattle.block_space.proofs.space.room.kind_quanta.Given as goal
 
 abbrev pub invariant-loop-words : goal.invariant-loop-words
 invariant-loop-words l = record {

@@ -4,8 +4,8 @@ use Rattle.block_layouts.specs.Layouts.{len_of, quanta}
 use Rattle.quantum_space.specs.Regions.{IsFreed}
 use Rattle.block_space.proofs.Keeping.{stored_block}
 use Rattle.block_space.proofs.Sums.{stored_quanta}
-use Rattle.block_space.proofs.space.free_at.Goals.{then-begins_at, else-begins_at}
-use Rattle.block_space.proofs.space.free_at.Goals as goal
+use Rattle.block_space.proofs.space.blocks.free_at.Goals.{then-begins_at, else-begins_at}
+use Rattle.block_space.proofs.space.blocks.free_at.Goals as goal
 
 none_there : (m : Option Layout) → is_some m ≡ false → m ≡ None
 none_there None e = refl

@@ -1,6 +1,6 @@
 use Rattle.std.proofs.Common.{◌≡◌, ◌+◌, ◌<◌, ◌≤◌, ℕ, drop, get_or}
 use Rattle.block_space.specs.Spaces.{list_quanta}
-use Rattle.block_space.proofs.space.list_quanta.Given as goal
+use Rattle.block_space.proofs.space.room.list_quanta.Given as goal
 
 abbrev pub invariant-loop-words : goal.invariant-loop-words
 invariant-loop-words l = record {
