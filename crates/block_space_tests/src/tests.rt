@@ -344,3 +344,80 @@ fn nothing_is_to_come_after_unreserve(rt: HostRuntime) {
         && are_placed(&mut space, &[64], &[(0, 0)]);
     assert!(rt; right);
 }
+
+/// Whether the bytes of a subzone are these, each so often, one after another to its end.
+fn is_map(space: &Space, subzone: u32, runs: &[(usize, u8)]) -> bool {
+    let Some(map) = space.subzone_map(subzone) else {
+        return false;
+    };
+    let mut at: usize = 0;
+    for run in runs {
+        for _ in 0..run.0 {
+            if map.get(at) != Some(&run.1) {
+                return false;
+            }
+            at = at.wrapping_add(1);
+        }
+    }
+    at == map.len()
+}
+
+/// Blocks of all lengths come to lie in holes of all kinds: one that fits, one that is a quantum too short, and the last of
+/// a subzone.
+fn come_and_go(space: &mut Space) -> bool {
+    are_placed(space, &[2, 0, 65, 3], &[(0, 0), (0, 1), (1, 0), (0, 2)])
+        && free(space, 0, 0)
+        && are_placed(space, &[2, 64, 64], &[(0, 0), (0, 4), (0, 36)])
+        && free(space, 0, 4)
+        && are_placed(space, &[62, 64], &[(0, 4), (0, 68)])
+        && are_placed(space, &[4096, 4096, 4096], &[(1, 1), (1, 33), (1, 65)])
+        && are_placed(space, &[4096, 4096, 4096], &[(1, 97), (1, 129), (1, 161)])
+        && are_placed(space, &[4096, 3968, 65], &[(1, 193), (1, 225), (2, 0)])
+        && free(space, 1, 0)
+}
+
+#[test]
+fn the_maps_after_all_of_it(rt: HostRuntime) {
+    let mut space = Space::new(rt.alloc());
+    let right = come_and_go(&mut space);
+    note(&mut space, at(0, 1));
+    note(&mut space, at(1, 225));
+    space.whiten_all();
+    let small = [
+        (1, 0x80),
+        (1, 0xec),
+        (1, 0x80),
+        (1, 0x83),
+        (1, 0x80),
+        (30, 0x83),
+        (1, 0),
+        (1, 0x80),
+        (31, 0x83),
+        (1, 0x80),
+        (31, 0x83),
+        (3996, 0),
+    ];
+    let medium = [
+        (1, 0),
+        (1, 0x80),
+        (31, 0x83),
+        (1, 0x80),
+        (31, 0x83),
+        (1, 0x80),
+        (31, 0x83),
+        (1, 0x80),
+        (31, 0x83),
+        (1, 0x80),
+        (31, 0x83),
+        (1, 0x80),
+        (31, 0x83),
+        (1, 0x80),
+        (31, 0x83),
+        (1, 0xec),
+        (30, 0x83),
+    ];
+    let maps = is_map(&space, 0, &small)
+        && is_map(&space, 1, &medium)
+        && is_map(&space, 2, &[(1, 0x80), (255, 0)]);
+    assert!(rt; right && maps && space.used() == 99 + 16384);
+}
