@@ -20,20 +20,20 @@ use Rattle.call_words.specs.declared.keywords.Verb.{Verb}
 use Rattle.call_words.specs.declared.keywords.Verb.TheVariants as verb
 use Rattle.call_words.specs.Names.{layout_of, layout_text, verb_text, verb_of, collect_of, collect_text}
 use Rattle.call_words.specs.Arguments.{Argument, Register, Root, AssocKey, Place, Number, Id, Location, Memory, Collection, Said, AllSaid, arguments_of, act_of}
-use Rattle.call_words.specs.Grammar.{OneWord, IsLettered, IsPlace, IsId, IsObject, LocationAt, ActionAt, NoAction, ActionsAt, kind_of, LayoutAt, MemoryAt, ArgumentAt, ArgumentsAt, AsksAt}
+use Rattle.call_words.specs.Grammar.{OneWord, IsLettered, SaysPlace, SaysId, IsObject, LocationAt, ActionAt, NoAction, ActionsAt, kind_of, LayoutAt, MemoryAt, ArgumentAt, ArgumentsAt, AsksAt}
 use Rattle.call_words.specs.Reading.Words.{reg_of, root_of, weak_of, key_of, block_of, object_of}
 use Rattle.call_words.specs.Reading.Calls.{next_as, place_at, location_by, location_at, action_by, begun_by, next_action, onto_actions, actions_at, memory_by, memory_at, argument_at, arguments_at, act_at}
 use Rattle.call_words.proofs.Steps.{bind_some, some_same, next_some}
 use Rattle.call_words.proofs.WordLaws.{one_ok, one_from, verb_ok, verb_from, collect_ok, collect_from, layout_name_ok, layout_name_from, reg_ok, reg_from, root_ok, root_from, weak_ok, weak_from, reg_is_not_weak, key_ok, key_from, id_ok, id_from_parts, object_ok, object_from}
 
 -- places
-pub place_ok : (numbers : NumbersAreRead) → (words : List (List ℕ)) (x : ℕ × List (List ℕ)) → place_at words ≡ Some x → OneWord IsPlace words x.0 x.1
+pub place_ok : (numbers : NumbersAreRead) → (words : List (List ℕ)) (x : ℕ × List (List ℕ)) → place_at words ≡ Some x → OneWord SaysPlace words x.0 x.1
 unfolding place_at
-place_ok numbers words x e = one_ok (number_in 0 4294967295) IsPlace (λ word n h. (numbers 0 4294967295 word n).0 h) words x e
+place_ok numbers words x e = one_ok (number_in 0 4294967295) SaysPlace (λ word n h. (numbers 0 4294967295 word n).0 h) words x e
 
-place_from : (numbers : NumbersAreRead) → (words : List (List ℕ)) (at : ℕ) (left : List (List ℕ)) → OneWord IsPlace words at left → place_at words ≡ Some (at, left)
+place_from : (numbers : NumbersAreRead) → (words : List (List ℕ)) (at : ℕ) (left : List (List ℕ)) → OneWord SaysPlace words at left → place_at words ≡ Some (at, left)
 unfolding place_at
-place_from numbers words at left h = one_from (number_in 0 4294967295) IsPlace (λ word n p. (numbers 0 4294967295 word n).1 p) words at left h
+place_from numbers words at left h = one_from (number_in 0 4294967295) SaysPlace (λ word n p. (numbers 0 4294967295 word n).1 p) words at left h
 
 -- weak locations
 located : (numbers : NumbersAreRead) → (word : List ℕ) (words : List (List ℕ)) (w : Option WeakNo) (r : Option ℕ) (x : Loc × List (List ℕ)) → weak_of word ≡ w → reg_of word ≡ r
@@ -233,7 +233,7 @@ argument_ok numbers most AssocKey words x e = one_ok key_of (λ w (k : Key). IsL
 argument_ok numbers most Place words x e = place_ok numbers words x e
 argument_ok numbers most Number words x e =
     one_ok (number_in 0 18446744073709551615) (IsNumberIn 0 18446744073709551615) (λ word n h. (numbers 0 18446744073709551615 word n).0 h) words x e
-argument_ok numbers most Id words x e = one_ok block_of IsId (id_ok numbers) words x e
+argument_ok numbers most Id words x e = one_ok block_of SaysId (id_ok numbers) words x e
 argument_ok numbers most Location words x e = location_ok numbers words x e
 argument_ok numbers most Memory words x e = memory_ok numbers most words x e
 argument_ok numbers most Collection words x e = one_ok collect_of (λ w kind. w ≡ collect_text kind) collect_ok words x e
@@ -245,7 +245,7 @@ argument_from numbers most AssocKey words x left h = one_from key_of (λ w (k : 
 argument_from numbers most Place words x left h = place_from numbers words x left h
 argument_from numbers most Number words x left h =
     one_from (number_in 0 18446744073709551615) (IsNumberIn 0 18446744073709551615) (λ word n p. (numbers 0 18446744073709551615 word n).1 p) words x left h
-argument_from numbers most Id words x left h = one_from block_of IsId (id_from_parts numbers) words x left h
+argument_from numbers most Id words x left h = one_from block_of SaysId (id_from_parts numbers) words x left h
 argument_from numbers most Location words x left h = location_from numbers words x left h
 argument_from numbers most Memory words x left h = memory_from numbers most words x left h
 argument_from numbers most Collection words x left h = one_from collect_of (λ w kind. w ≡ collect_text kind) collect_from words x left h

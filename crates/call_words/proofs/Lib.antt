@@ -3,3 +3,9 @@ pub mod Actions
 pub mod Objects
 pub mod WordLaws
 pub mod ArgumentLaws
+pub mod OptionNames
+pub mod PlainWords
+pub mod Spreading
+pub mod WrittenNumbers
+pub mod WrittenActs
+pub mod Spelled

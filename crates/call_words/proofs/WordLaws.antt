@@ -27,7 +27,7 @@ use Rattle.call_words.specs.declared.keywords.CollectName.TheVariants as kind
 use Rattle.call_words.specs.Names.{name_text, all_names, name_of, layout_text, layout_of, verb_text, verb_of, collect_text, collect_of}
 use Rattle.call_words.specs.Reading.Words.{lettered, reg_of, root_of, weak_of, key_of, id_from, id_by, block_of, object_of}
 use Rattle.call_words.specs.Reading.Calls.{next_as}
-use Rattle.call_words.specs.Grammar.{OneWord, IsLettered, IsId, IsObject}
+use Rattle.call_words.specs.Grammar.{OneWord, IsLettered, SaysId, IsObject}
 use Rattle.call_words.proofs.Steps.{chosen, some_same, next_some}
 
 -- one word, by the law of what it says
@@ -181,13 +181,13 @@ id_parts (Some t) None id e = cc
 id_parts None (Some s) id e = cc
 id_parts None None id e = cc
 
-id_cut : (numbers : NumbersAreRead) → (word : List ℕ) (o : Option (List ℕ × List ℕ)) (id : BlockId) → cut_at 46 word ≡ o → id_by o ≡ Some id → IsId word id
+id_cut : (numbers : NumbersAreRead) → (word : List ℕ) (o : Option (List ℕ × List ℕ)) (id : BlockId) → cut_at 46 word ≡ o → id_by o ≡ Some id → SaysId word id
 id_cut numbers word None id c e = cc
 id_cut numbers word (Some p) id c e =
     let q = id_parts (number_in 1 16 p.0) (number_in 0 4294967295 p.1) id e in
     (p.0, p.1, cut_ok 46 word p c, (numbers 1 16 p.0 id.thread).0 q.0, (numbers 0 4294967295 p.1 id.serial).0 q.1)
 
-pub id_ok : (numbers : NumbersAreRead) → (word : List ℕ) (id : BlockId) → block_of word ≡ Some id → IsId word id
+pub id_ok : (numbers : NumbersAreRead) → (word : List ℕ) (id : BlockId) → block_of word ≡ Some id → SaysId word id
 unfolding block_of
 id_ok numbers word id e = id_cut numbers word (cut_at 46 word) id refl e
 
@@ -204,7 +204,7 @@ cut_digits (b ∷ front) back h =
     let p = and_parts (is_ascii_digit b) (list_all is_ascii_digit front) h in
     rw (no_dot b p.0, cut_digits front back p.1) refl
 
-pub id_from_parts : (numbers : NumbersAreRead) → (word : List ℕ) (id : BlockId) → IsId word id → block_of word ≡ Some id
+pub id_from_parts : (numbers : NumbersAreRead) → (word : List ℕ) (id : BlockId) → SaysId word id → block_of word ≡ Some id
 unfolding block_of
 id_from_parts numbers word id h =
     rw (h.2, cut_digits h.0 h.1 h.3.numeral.digits, (numbers 1 16 h.0 id.thread).1 h.3, (numbers 0 4294967295 h.1 id.serial).1 h.4) refl

@@ -29,12 +29,12 @@ abbrev pub IsLettered : ℕ → ℕ → List ℕ → ℕ → Type 0
 IsLettered letter high word n = (digits : List ℕ) × (word ≡ letter ∷ digits) × IsNumberIn 0 high digits n
 
 -- a place in a block: a numeral of 32 bits
-abbrev pub IsPlace : List ℕ → ℕ → Type 0
-IsPlace word at = IsNumberIn 0 4294967295 word at
+abbrev pub SaysPlace : List ℕ → ℕ → Type 0
+SaysPlace word at = IsNumberIn 0 4294967295 word at
 
 -- a thread, a dot, and a serial of 32 bits
-abbrev pub IsId : List ℕ → BlockId → Type 0
-IsId word id = (thread : List ℕ) × (serial : List ℕ) × (word ≡ thread ++ 46 ∷ serial) × IsNumberIn 1 MOST_THREADS thread id.thread × IsNumberIn 0 4294967295 serial id.serial
+abbrev pub SaysId : List ℕ → BlockId → Type 0
+SaysId word id = (thread : List ℕ) × (serial : List ℕ) × (word ≡ thread ++ 46 ∷ serial) × IsNumberIn 1 MOST_THREADS thread id.thread × IsNumberIn 0 4294967295 serial id.serial
 
 -- an object of 1 to 4,096 words: a letter S, W or P for each, and no other letter
 abbrev pub IsObject : List ℕ → Shape → Type 0
@@ -43,13 +43,13 @@ IsObject word layout = (first_other word ≡ None) × (0 < length word) × (leng
 -- a weak root, or a register and a place
 abbrev pub LocationAt : List (List ℕ) → Loc → List (List ℕ) → Type 0
 LocationAt words (loc.Root root) left = (word : List ℕ) × (words ≡ word ∷ left) × IsLettered 119 255 word root.0
-LocationAt words (loc.Word reg at) left = (first : List ℕ) × (second : List ℕ) × (words ≡ first ∷ second ∷ left) × IsLettered 114 15 first reg × IsPlace second at
+LocationAt words (loc.Word reg at) left = (first : List ℕ) × (second : List ℕ) × (words ≡ first ∷ second ∷ left) × IsLettered 114 15 first reg × SaysPlace second at
 
 -- an action: keep and a root, or pass, a root and a place
 abbrev pub ActionAt : List (List ℕ) → Action → List (List ℕ) → Type 0
 ActionAt words (action.Keep root) left = (first : List ℕ) × (words ≡ codes "keep" ∷ first ∷ left) × IsLettered 103 255 first root.0
 ActionAt words (action.Pass root at) left =
-    (first : List ℕ) × (second : List ℕ) × (words ≡ codes "pass" ∷ first ∷ second ∷ left) × IsLettered 103 255 first root.0 × IsPlace second at
+    (first : List ℕ) × (second : List ℕ) × (words ≡ codes "pass" ∷ first ∷ second ∷ left) × IsLettered 103 255 first root.0 × SaysPlace second at
 
 -- no word begins an action here
 abbrev pub NoAction : List (List ℕ) → Type 0
@@ -84,9 +84,9 @@ abbrev pub ArgumentAt : ℕ → (kind : Argument) → List (List ℕ) → Said k
 ArgumentAt most Register words reg left = OneWord (IsLettered 114 15) words reg left
 ArgumentAt most Root words root left = OneWord (λ word (g : RootNo). IsLettered 103 255 word g.0) words root left
 ArgumentAt most AssocKey words key left = OneWord (λ word (k : Key). IsLettered 107 255 word k.0) words key left
-ArgumentAt most Place words at left = OneWord IsPlace words at left
+ArgumentAt most Place words at left = OneWord SaysPlace words at left
 ArgumentAt most Number words n left = OneWord (IsNumberIn 0 18446744073709551615) words n left
-ArgumentAt most Id words id left = OneWord IsId words id left
+ArgumentAt most Id words id left = OneWord SaysId words id left
 ArgumentAt most Location words loc left = LocationAt words loc left
 ArgumentAt most Memory words memory left = MemoryAt most words memory left
 ArgumentAt most Collection words kind left = OneWord (λ word kind. word ≡ collect_text kind) words kind left

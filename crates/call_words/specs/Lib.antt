@@ -1,5 +1,10 @@
+pub mod Spacing
 pub mod Names
+pub mod Options
 pub mod Arguments
 pub mod Grammar
+pub mod Words
+pub mod Ranges
+pub mod Written
 pub mod Laws
 pub mod Reading

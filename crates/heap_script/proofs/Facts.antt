@@ -13,17 +13,20 @@ use Rattle.call_words.specs.Names.{collect_text}
 use Rattle.call_words.specs.Arguments.{AllSaid, arguments_of, collect_act, act_of}
 use Rattle.call_words.specs.Grammar.{OneWord, ArgumentsAt}
 use Rattle.call_words.specs.Laws.{CollectNamesAreRead}
+use Rattle.call_words.specs.Ranges.{IsSpelledAct}
+use Rattle.call_words.proofs.Spelled.{act_spelled}
 use Rattle.heap_script.specs.declared.entries.Entry.{Entry}
 use Rattle.heap_script.specs.declared.entries.Entry.TheVariants as entry
 use Rattle.heap_script.specs.declared.line.Line.{Line}
 use Rattle.heap_script.specs.declared.script.Script.{Script}
-use Rattle.heap_script.specs.declared.setting.OptionName.{OptionName}
-use Rattle.heap_script.specs.declared.setting.OptionName.TheVariants as option
+use Rattle.call_words.specs.declared.options.OptionName.{OptionName}
+use Rattle.call_words.specs.declared.options.OptionName.TheVariants as option
 use Rattle.heap_script.specs.declared.setting.Setting.{Setting}
 use Rattle.heap_script.specs.Built.{is_built_kind, is_built, is_built_kind_or_none, begins_built, is_built_before, most_actions, Holds}
-use Rattle.heap_script.specs.Settings.{least, largest, setting_to, with_setting}
+use Rattle.call_words.specs.Options.{least}
+use Rattle.heap_script.specs.Settings.{largest, setting_to, with_setting}
 use Rattle.heap_script.specs.Lines.{LineAt, SettingAt, IsEntry, called_after, AreEntries}
-use Rattle.heap_script.specs.Scripts.{with_entry, options_after, calls_of, IsScript, AllThreads, IsThere, IsBuilt, AllBuilt, CanBePlayed}
+use Rattle.heap_script.specs.Scripts.{with_entry, options_after, calls_of, IsScript, AllThreads, IsThere, IsBuilt, AllBuilt, AllSpelled, CanBePlayed}
 
 -- each call line is of a thread that there is
 threads_of : (called : Bool) (text : List (List ℕ)) (entries : List Entry) → AreEntries called text entries → AllThreads (calls_of entries)
@@ -92,6 +95,20 @@ built_of kinds called (line ∷ text) (entry.Call call ∷ entries) h =
 all_built : (kinds : CollectNamesAreRead) → (bytes : List ℕ) (script : Script) → IsScript bytes script → AllBuilt script.lines
 all_built kinds bytes script h = subst AllBuilt (sym h.lines) (built_of kinds false _ h.entries h.said.says)
 
+-- each call line asks for what the grammar has
+spelled_of : (called : Bool) (text : List (List ℕ)) (entries : List Entry) → AreEntries called text entries → AllSpelled (calls_of entries)
+spelled_of called [] [] h = All-nil (λ l. IsSpelledAct l.act)
+spelled_of called [] (e ∷ entries) h = absurd h
+spelled_of called (line ∷ text) [] h = absurd h
+spelled_of called (line ∷ text) (entry.Nothing ∷ entries) h = spelled_of (called_after called entry.Nothing) text entries h.1
+spelled_of called (line ∷ text) (entry.Set set ∷ entries) h = spelled_of (called_after called (entry.Set set)) text entries h.1
+spelled_of called (line ∷ text) (entry.Call call ∷ entries) h =
+    let at = h.0.1 in
+    All-cons (λ l. IsSpelledAct l.act) call (calls_of entries) (act_spelled most_actions at.name at.others call.act [] at.asks) (spelled_of (called_after called (entry.Call call)) text entries h.1)
+
+all_spelled : (bytes : List ℕ) (script : Script) → IsScript bytes script → AllSpelled script.lines
+all_spelled bytes script h = subst AllSpelled (sym h.lines) (spelled_of false _ h.entries h.said.says)
+
 -- a number in its range keeps options valid
 set_valid : (name : OptionName) (n : ℕ) (o : Options) → least name ≤ n → n ≤ largest name → IsValid o → IsValid (with_setting o (setting_to name n))
 set_valid option.Heap n o l m h = record { heap = (l, m); «local» = h.«local»; serials = h.serials; counts = h.counts; pending = h.pending }
@@ -122,4 +139,4 @@ valid_options : (bytes : List ℕ) (script : Script) → IsScript bytes script �
 valid_options bytes script h = subst IsValid (sym h.options) (valid_of false _ h.entries usual_options h.said.says usual_valid)
 
 pub can_be_played : (kinds : CollectNamesAreRead) → (bytes : List ℕ) (script : Script) → IsScript bytes script → CanBePlayed script
-can_be_played kinds bytes script h = record { options = valid_options bytes script h; threads = all_threads bytes script h; built = all_built kinds bytes script h }
+can_be_played kinds bytes script h = record { options = valid_options bytes script h; threads = all_threads bytes script h; built = all_built kinds bytes script h; spelled = all_spelled bytes script h }

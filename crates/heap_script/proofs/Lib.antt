@@ -9,8 +9,6 @@ pub mod ScriptLaws
 pub mod RefusalLaws
 pub mod Found
 pub mod Readings
-pub mod PlainWords
-pub mod PrintedText
-pub mod PrintedNumbers
+pub mod PrintedLines
 pub mod PrintedActs
 pub mod PrintedScripts

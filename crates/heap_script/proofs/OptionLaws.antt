@@ -2,30 +2,18 @@
 use Rattle.std.proofs.Common.{◌≡◌, ℕ, inl, inr, List, [], ◌∷◌, Some, Result, Ok, Err, refl, sym, ap, ◌∙◌, subst}
 use Rattle.az_words.specs.Numerals.{number_in}
 use Rattle.az_words.specs.Laws.{NumbersAreRead}
-use Rattle.az_words.proofs.NameLaws.{among_ok}
 use Rattle.call_words.specs.Reading.Calls.{next_as}
 use Rattle.heap_script.specs.declared.cause.Cause.{Cause}
 use Rattle.heap_script.specs.declared.cause.Cause.TheVariants.{NoCall, WrongArgument, TooManyArguments}
-use Rattle.heap_script.specs.declared.setting.OptionName.{OptionName}
-use Rattle.heap_script.specs.declared.setting.OptionName.TheVariants as option
+use Rattle.call_words.specs.declared.options.OptionName.{OptionName}
+use Rattle.call_words.specs.Options.{option_text, option_of, least}
+use Rattle.call_words.proofs.OptionNames.{option_ok, option_from}
 use Rattle.heap_script.specs.declared.setting.Setting.{Setting}
-use Rattle.heap_script.specs.Settings.{option_text, least, largest, setting_to}
+use Rattle.heap_script.specs.Settings.{largest, setting_to}
 use Rattle.heap_script.specs.Lines.{SettingAt}
 use Rattle.heap_script.specs.Refusals.{NamesOption, SettingCause}
-use Rattle.heap_script.specs.Reading.Scripts.{◌>>=◌, or_cause, no_more, option_of, setting_of}
+use Rattle.heap_script.specs.Reading.Scripts.{◌>>=◌, or_cause, no_more, setting_of}
 use Rattle.heap_script.proofs.Steps.{or_ok, or_err, bind_ok, bind_err, ok_same, ok_is_not_err, next_some, next_none, no_more_ok, no_more_err, some_left}
-
-option_ok : (word : List ℕ) (name : OptionName) → option_of word ≡ Some name → word ≡ option_text name
-unfolding option_of
-option_ok word name e = among_ok option_text (option.Heap ∷ option.Local ∷ option.Serials ∷ option.Counts ∷ option.Pending ∷ []) word name e
-
-option_from : (name : OptionName) → option_of (option_text name) ≡ Some name
-unfolding option_of
-option_from option.Heap = refl
-option_from option.Local = refl
-option_from option.Serials = refl
-option_from option.Counts = refl
-option_from option.Pending = refl
 
 -- what stands where the words were read this far
 Front : List (List ℕ) → OptionName → List (List ℕ) → Type 0

@@ -16,15 +16,21 @@ use Rattle.heap_script.specs.declared.entries.Entry.{Entry}
 use Rattle.heap_script.specs.declared.entries.Entry.TheVariants as entry
 use Rattle.heap_script.specs.declared.line.Line.{Line}
 use Rattle.heap_script.specs.declared.script.Script.{Script}
-use Rattle.heap_script.specs.declared.setting.OptionName.{OptionName}
-use Rattle.heap_script.specs.declared.setting.OptionName.TheVariants as option
-use Rattle.heap_script.specs.Settings.{option_text, least, largest, setting_to, with_setting}
+use Rattle.call_words.specs.declared.options.OptionName.{OptionName}
+use Rattle.call_words.specs.declared.options.OptionName.TheVariants as option
+use Rattle.call_words.specs.Spacing.{spaced, fed_line, IsPlain, ArePlain}
+use Rattle.call_words.specs.Options.{option_text, least, option_words, option_lines, options_lines}
+use Rattle.call_words.specs.Ranges.{HasFewActions}
+use Rattle.call_words.specs.Words.{act_words}
+use Rattle.call_words.proofs.PlainWords.{words_are_cut}
+use Rattle.call_words.proofs.OptionNames.{option_plain}
+use Rattle.call_words.proofs.WrittenNumbers.{decimal_in, decimal_plain, decimal_digits}
+use Rattle.heap_script.specs.Built.{most_actions}
+use Rattle.heap_script.specs.Settings.{largest, setting_to, with_setting}
 use Rattle.heap_script.specs.Lines.{IsFit, is_skipped, IsLine, IsEntry, AreEntries, SayLines}
 use Rattle.heap_script.specs.Scripts.{options_after, calls_of, IsScript, IsBuilt}
-use Rattle.heap_script.specs.Ranges.{LineFits}
-use Rattle.heap_script.specs.Printed.{spaced, line_words, act_words, option_lines, options_lines, script_lines, line_text, script_text, HasActions, KeepsLimits}
-use Rattle.heap_script.proofs.PlainWords.{IsPlain, ArePlain, LinesArePlain, words_are_cut, spaced_text, lines_are_cut, lines_together}
-use Rattle.heap_script.proofs.PrintedNumbers.{decimal_in, decimal_plain, decimal_digits}
+use Rattle.heap_script.specs.Printed.{line_words, script_lines, script_text, LineFits, KeepsLimits}
+use Rattle.heap_script.proofs.PrintedLines.{LinesArePlain, spaced_text, lines_are_cut, lines_together}
 use Rattle.heap_script.proofs.PrintedActs.{Asked, asked}
 
 -- lines of words say these entries
@@ -47,18 +53,18 @@ record Printed (line : Line) : Type 0 where
   act : Asked line.act
 
 line_plain : (line : Line) → Printed line → ArePlain (line_words line)
-line_plain line h = (decimal_plain line.thread (omega (arith, h.fits.1)), h.act.plain)
+line_plain line h = (decimal_plain line.thread (omega (arith, h.fits.0.1)), h.act.plain)
 
 call_entry : (called : Bool) (line : Line) → Printed line → IsEntry called (words_of (spaced (line_words line))) (entry.Call line)
 call_entry called line h =
-    let number : line.thread < 2 ^ 64 = omega (arith, h.fits.1) in
+    let number : line.thread < 2 ^ 64 = omega (arith, h.fits.0.1) in
     let plain = decimal_plain line.thread number in
     let at : IsLine (line_words line) line = record {
       first = decimal line.thread;
       name = h.act.name;
       others = h.act.others;
       spelled = ap (λ words. decimal line.thread ∷ words) h.act.spelled;
-      thread = decimal_in 1 16 line.thread h.fits.0 h.fits.1 (omega arith);
+      thread = decimal_in 1 16 line.thread h.fits.0.0 h.fits.0.1 (omega arith);
       built = h.act.built;
       asks = h.act.asks;
     } in
@@ -83,18 +89,8 @@ calls_set o (line ∷ lines) = calls_set o lines
 
 -- option lines
 
-option_words : OptionName → ℕ → List (List ℕ)
-option_words name n = codes "option" ∷ option_text name ∷ decimal n ∷ []
-
 abbrev option_entries : OptionName → ℕ → ℕ → List Entry
 option_entries name usual n = cond (eqb n usual) [] (entry.Set (setting_to name n) ∷ [])
-
-text_plain : (name : OptionName) → IsPlain (option_text name)
-text_plain option.Heap = record { some = omega arith; visible = refl }
-text_plain option.Local = record { some = omega arith; visible = refl }
-text_plain option.Serials = record { some = omega arith; visible = refl }
-text_plain option.Counts = record { some = omega arith; visible = refl }
-text_plain option.Pending = record { some = omega arith; visible = refl }
 
 largest_fits : (name : OptionName) → largest name < 2 ^ 64
 largest_fits option.Heap = omega arith
@@ -111,7 +107,7 @@ words_plain : (name : OptionName) (n : ℕ) → InOption name n → ArePlain (op
 unfolding option_words
 words_plain name n range =
     let large = largest_fits name in
-    (record { some = omega arith; visible = refl }, (text_plain name, (decimal_plain n (omega (arith, range.1)), tt)))
+    (record { some = omega arith; visible = refl }, (option_plain name, (decimal_plain n (omega (arith, range.1)), tt)))
 
 option_entry : (name : OptionName) (n : ℕ) → InOption name n → IsEntry false (words_of (spaced (option_words name n))) (entry.Set (setting_to name n))
 unfolding option_words
@@ -124,9 +120,9 @@ unfolding option_lines option_words
 option_says name usual n lines entries range said =
     elim (eqb n usual) as (λ b. Say false (cond b [] (option_words name n ∷ []) ++ lines) (cond b [] (entry.Set (setting_to name n) ∷ []) ++ entries)) [ true ↦ said | false ↦ (option_entry name n range, said) ]
 
-option_plain : (name : OptionName) (usual n : ℕ) → InOption name n → LinesArePlain (option_lines name usual n)
+option_lines_plain : (name : OptionName) (usual n : ℕ) → InOption name n → LinesArePlain (option_lines name usual n)
 unfolding option_lines option_words
-option_plain name usual n range = elim (eqb n usual) as (λ b. LinesArePlain (cond b [] (option_words name n ∷ []))) [ true ↦ tt | false ↦ (words_plain name n range, tt) ]
+option_lines_plain name usual n range = elim (eqb n usual) as (λ b. LinesArePlain (cond b [] (option_words name n ∷ []))) [ true ↦ tt | false ↦ (words_plain name n range, tt) ]
 
 option_no_call : (name : OptionName) (usual n : ℕ) (entries : List Entry) → calls_of (option_entries name usual n ++ entries) ≡ calls_of entries
 option_no_call name usual n entries = elim (eqb n usual) as (λ b. calls_of (cond b [] (entry.Set (setting_to name n) ∷ []) ++ entries) ≡ calls_of entries) [ true ↦ refl | false ↦ refl ]
@@ -168,10 +164,10 @@ options_say o lines entries v said =
 
 options_plain : (o : Options) → IsValid o → LinesArePlain (lines_before o [])
 options_plain o v =
-    lines_together _ _ (option_plain option.Heap _ o.heap_quanta v.heap)
-    (lines_together _ _ (option_plain option.Local _ o.local_quanta (omega arith, v.local))
-    (lines_together _ _ (option_plain option.Serials _ o.serials v.serials)
-    (lines_together _ _ (option_plain option.Counts _ o.counts v.counts) (lines_together _ _ (option_plain option.Pending _ o.pending v.pending) tt))))
+    lines_together _ _ (option_lines_plain option.Heap _ o.heap_quanta v.heap)
+    (lines_together _ _ (option_lines_plain option.Local _ o.local_quanta (omega arith, v.local))
+    (lines_together _ _ (option_lines_plain option.Serials _ o.serials v.serials)
+    (lines_together _ _ (option_lines_plain option.Counts _ o.counts v.counts) (lines_together _ _ (option_lines_plain option.Pending _ o.pending v.pending) tt))))
 
 options_no_call : (o : Options) (entries : List Entry) → calls_of (entries_before o entries) ≡ calls_of entries
 options_no_call o entries =
@@ -190,24 +186,24 @@ options_set o lines =
 
 -- the whole script
 
-all_printed : (lines : List Line) → AllByRecursion LineFits lines → AllByRecursion (λ (line : Line). IsBuilt line.act) lines → AllByRecursion (λ (line : Line). HasActions line.act) lines → AllByRecursion Printed lines
+all_printed : (lines : List Line) → AllByRecursion LineFits lines → AllByRecursion (λ (line : Line). IsBuilt line.act) lines → AllByRecursion (λ (line : Line). HasFewActions most_actions line.act) lines → AllByRecursion Printed lines
 all_printed [] f b a = tt
-all_printed (line ∷ lines) f b a = (record { fits = f.0; act = asked line.act f.0.2 b.0 a.0 }, all_printed lines f.1 b.1 a.1)
+all_printed (line ∷ lines) f b a = (record { fits = f.0; act = asked line.act f.0.1 b.0 a.0 }, all_printed lines f.1 b.1 a.1)
 
 lines_fit : (lines : List (List (List ℕ))) → LinesArePlain lines → AllByRecursion (λ words. length (spaced words) ≤ 8192) lines → AllByRecursion (λ words. IsFit (spaced words)) lines
 lines_fit [] plain short = tt
 lines_fit (words ∷ lines) plain short = (record { text = spaced_text words plain.0; short = short.0 }, lines_fit lines plain.1 short.1)
 
-text_is : (script : Script) → script_text script ≡ flat_map line_text (script_lines script)
+text_is : (script : Script) → script_text script ≡ flat_map fed_line (script_lines script)
 unfolding script_text
 text_is script =
-    ap (λ text. flat_map line_text (options_lines script.options) ++ text) (sym (flat_map-map line_text line_words script.lines))
-    ∙ sym (flat_map-append line_text (options_lines script.options) (map line_words script.lines))
+    ap (λ text. flat_map fed_line (options_lines script.options) ++ text) (sym (flat_map-map fed_line line_words script.lines))
+    ∙ sym (flat_map-append fed_line (options_lines script.options) (map line_words script.lines))
 
 pub printed_is : (script : Script) → KeepsLimits script → IsScript (script_text script) script
 printed_is script keeps =
     let calls = map entry.Call script.lines in
-    let printed : AllByRecursion Printed script.lines = all_printed script.lines (recursion_from_All LineFits script.lines keeps.numbers) (recursion_from_All (λ (line : Line). IsBuilt line.act) script.lines keeps.built) (recursion_from_All (λ (line : Line). HasActions line.act) script.lines keeps.actions) in
+    let printed : AllByRecursion Printed script.lines = all_printed script.lines (recursion_from_All LineFits script.lines keeps.numbers) (recursion_from_All (λ (line : Line). IsBuilt line.act) script.lines keeps.built) (recursion_from_All (λ (line : Line). HasFewActions most_actions line.act) script.lines keeps.actions) in
     let before = before_is script.options (map line_words script.lines) in
     let none = before_is script.options [] ∙ refl in
     let plain : LinesArePlain (script_lines script) = lines_together (options_lines script.options) (map line_words script.lines) (subst LinesArePlain (sym none ∙ append-nil (options_lines script.options)) (options_plain script.options keeps.options)) (calls_plain script.lines printed) in

@@ -5,6 +5,5 @@ pub mod Causes
 pub mod Refusals
 pub mod Scripts
 pub mod Laws
-pub mod Ranges
 pub mod Printed
 pub mod Reading

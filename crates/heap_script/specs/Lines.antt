@@ -10,10 +10,11 @@ use Rattle.call_words.specs.Grammar.{AsksAt}
 use Rattle.heap_script.specs.declared.entries.Entry.{Entry}
 use Rattle.heap_script.specs.declared.entries.Entry.TheVariants as entry
 use Rattle.heap_script.specs.declared.line.Line.{Line}
-use Rattle.heap_script.specs.declared.setting.OptionName.{OptionName}
+use Rattle.call_words.specs.declared.options.OptionName.{OptionName}
 use Rattle.heap_script.specs.declared.setting.Setting.{Setting}
 use Rattle.heap_script.specs.Built.{is_built_before, most_actions}
-use Rattle.heap_script.specs.Settings.{option_text, least, largest, setting_to}
+use Rattle.call_words.specs.Options.{option_text, least}
+use Rattle.heap_script.specs.Settings.{largest, setting_to}
 
 -- text of at most 8,192 bytes
 pub record IsFit (line : List ℕ) : Type 0 where

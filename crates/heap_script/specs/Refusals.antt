@@ -9,10 +9,10 @@ use Rattle.call_words.specs.Names.{name_text}
 use Rattle.heap_script.specs.declared.cause.Cause.{Cause}
 use Rattle.heap_script.specs.declared.cause.Cause.TheVariants.{NotText, LineTooLong, TooManyLines, NoThread, NoCall, WrongArgument, TooManyArguments}
 use Rattle.heap_script.specs.declared.line.Line.{Line}
-use Rattle.heap_script.specs.declared.setting.OptionName.{OptionName}
+use Rattle.call_words.specs.declared.options.OptionName.{OptionName}
 use Rattle.heap_script.specs.declared.setting.Setting.{Setting}
 use Rattle.heap_script.specs.Built.{is_built_before}
-use Rattle.heap_script.specs.Settings.{option_text}
+use Rattle.call_words.specs.Options.{option_text}
 use Rattle.heap_script.specs.Lines.{IsFit, is_skipped, LineAt, SettingAt}
 
 -- the first word is a thread

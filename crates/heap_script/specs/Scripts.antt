@@ -9,6 +9,7 @@ use Rattle.zone_model.specs.declared.act.Act.{Act}
 use Rattle.zone_model.specs.declared.act.Act.TheVariants as act
 use Rattle.zone_model.specs.declared.call.Call.TheVariants as call
 use Rattle.call_words.specs.declared.keywords.CollectName.TheVariants as kind
+use Rattle.call_words.specs.Ranges.{IsSpelledAct}
 use Rattle.heap_script.specs.declared.entries.Entry.{Entry}
 use Rattle.heap_script.specs.declared.entries.Entry.TheVariants as entry
 use Rattle.heap_script.specs.declared.line.Line.{Line}
@@ -118,8 +119,13 @@ IsBuilt _ = ⊥
 abbrev pub AllBuilt : List Line → Type 0
 AllBuilt lines = All (λ line. IsBuilt line.act) lines
 
--- the options are valid, and each line asks a thread that there is for what is built
+-- each line asks for what the grammar has: a layout that blocks may have, and actions of objects alone
+abbrev pub AllSpelled : List Line → Type 0
+AllSpelled lines = All (λ line. IsSpelledAct line.act) lines
+
+-- the options are valid, and each line asks a thread that there is for what is built, and for what the grammar has
 pub record CanBePlayed (script : Script) : Type 0 where
   pub options : IsValid script.options
   pub threads : AllThreads script.lines
   pub built : AllBuilt script.lines
+  pub spelled : AllSpelled script.lines

@@ -1,23 +1,10 @@
 -- The options that a script sets
-use Rattle.std.specs.Prelude.{List, ℕ, codes}
+use Rattle.std.specs.Prelude.{ℕ}
 use Rattle.az_base.specs.declared.options.Options.{Options}
-use Rattle.heap_script.specs.declared.setting.OptionName.{OptionName}
-use Rattle.heap_script.specs.declared.setting.OptionName.TheVariants as option
+use Rattle.call_words.specs.declared.options.OptionName.{OptionName}
+use Rattle.call_words.specs.declared.options.OptionName.TheVariants as option
 use Rattle.heap_script.specs.declared.setting.Setting.{Setting}
 use Rattle.heap_script.specs.declared.setting.Setting.TheVariants as setting
-
--- how an option is written
-abbrev pub option_text : OptionName → List ℕ
-option_text option.Heap = codes "heap"
-option_text option.Local = codes "local"
-option_text option.Serials = codes "serials"
-option_text option.Counts = codes "counts"
-option_text option.Pending = codes "pending"
-
--- the least number that an option may have
-abbrev pub least : OptionName → ℕ
-least option.Local = 0
-least _ = 1
 
 -- the largest number that an option may have
 abbrev pub largest : OptionName → ℕ

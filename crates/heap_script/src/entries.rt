@@ -9,9 +9,9 @@ ghost use Rattle.heap_script.specs.Reading.Scripts.{Gives, no_more, line_of, set
 use crate::built::{MOST_ACTIONS, next_built};
 use crate::cause::{Cause, LineErr};
 use crate::line::Line;
-use crate::setting::{OptionName, Setting, next_option};
+use crate::setting::Setting;
 use az_words::{Words, is_text, is_word, next_word};
-use call_words::{arguments, next_number, next_thread, next_wide_number};
+use call_words::{OptionName, arguments, next_number, next_option, next_thread, next_wide_number};
 use std::alloc::Global;
 
 /// The most bytes of a line, its line feed not counted.

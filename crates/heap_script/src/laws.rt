@@ -65,7 +65,8 @@ pub fn texts_have_one_reading()
     scripts_are_refused();
 }
 
-/// Each script has options in their ranges, and each of its lines asks a thread that there is for what is built.
+/// Each script has options in their ranges, and each of its lines asks a thread that there is for what is built, and for
+/// what the grammar of histories has too: a layout that blocks may have, and actions of objects alone.
 pub fn scripts_can_be_played()
     ensures { ScriptsCanBePlayed }
 {

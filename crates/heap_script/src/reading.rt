@@ -1,7 +1,7 @@
 //! Reading a script, line by line.
 ghost use Rattle.std.specs.Prelude.{◌≡◌, IfOk};
 ghost use Rattle.az_base.specs.OptionRanges.{IsValid};
-ghost use Rattle.heap_script.specs.Scripts.{is_called, Parses, AllThreads, AllBuilt};
+ghost use Rattle.heap_script.specs.Scripts.{is_called, Parses, AllThreads, AllBuilt, AllSpelled};
 ghost use Rattle.heap_script.specs.Reading.Scripts.{IsRead};
 
 use crate::cause::ScriptErr;
@@ -29,6 +29,7 @@ pub fn parse(alloc: Global, bytes: &[u8]) -> Result<Script, ScriptErr>
     ensures options { IfOk result (λ script. IsValid script.options) }
     ensures threads { IfOk result (λ script. AllThreads script.lines) }
     ensures built { IfOk result (λ script. AllBuilt script.lines) }
+    ensures spelled { IfOk result (λ script. AllSpelled script.lines) }
 {
     scripts_are_read();
     scripts_are_refused();

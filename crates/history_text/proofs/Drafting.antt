@@ -13,7 +13,8 @@ use Rattle.history_text.specs.declared.lines.HistoryLine.{HistoryLine}
 use Rattle.history_text.specs.declared.lines.HistoryLine.TheVariants as line
 use Rattle.history_text.specs.declared.lines.Setting.{Setting}
 use Rattle.history_text.specs.Laws.{LinesHaveOneReading}
-use Rattle.history_text.specs.Ranges.{IsEntry, IsSpelled, IsReply}
+use Rattle.call_words.specs.Ranges.{IsSpelled}
+use Rattle.history_text.specs.Ranges.{IsEntry, IsReply}
 use Rattle.history_text.specs.Lines.{IsLine, bare_line}
 use Rattle.history_text.specs.Texts.{settings_of, setting_lines, entry_lines, lines_before_end}
 use Rattle.history_text.specs.Drafts.{IsDraft, HasLine, CannotFollow, lines_so_far, place_of, with_setting, line_place, next_place}

@@ -8,10 +8,11 @@ use Rattle.zone_model.specs.declared.entry.Entry.{Entry}
 use Rattle.zone_model.specs.declared.entry.Stats.{Stats}
 use Rattle.history_text.specs.declared.lines.HistoryLine.{HistoryLine}
 use Rattle.history_text.specs.declared.lines.HistoryLine.TheVariants as line
-use Rattle.history_text.specs.declared.lines.OptionName.{OptionName}
-use Rattle.history_text.specs.declared.lines.OptionName.TheVariants as option
+use Rattle.call_words.specs.declared.options.OptionName.{OptionName}
+use Rattle.call_words.specs.declared.options.OptionName.TheVariants as option
 use Rattle.history_text.specs.declared.lines.Setting.{Setting}
-use Rattle.history_text.specs.Lines.{least, most, IsSetting, bare_line}
+use Rattle.call_words.specs.Options.{least}
+use Rattle.history_text.specs.Lines.{most, IsSetting, bare_line}
 use Rattle.history_text.specs.Texts.{unless_usual, settings_of, setting_lines, entry_lines, lines_before_end, lines_of_history}
 use Rattle.history_text.specs.Drafts.{place_of, with_setting, AreUsualFrom, line_place, place_after, next_place}
 

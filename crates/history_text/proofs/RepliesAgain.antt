@@ -24,22 +24,25 @@ use Rattle.zone_model.specs.declared.entry.Stats.{Stats}
 use Rattle.zone_model.specs.Bare.{bare_reply, bare_entry}
 use Rattle.history_text.specs.declared.lines.HistoryLine.{HistoryLine}
 use Rattle.history_text.specs.declared.lines.HistoryLine.TheVariants as line
-use Rattle.history_text.specs.declared.lines.OptionName.{OptionName}
-use Rattle.history_text.specs.declared.lines.OptionName.TheVariants as option
+use Rattle.call_words.specs.declared.options.OptionName.{OptionName}
+use Rattle.call_words.specs.declared.options.OptionName.TheVariants as option
 use Rattle.history_text.specs.declared.lines.Setting.{Setting}
 use Rattle.history_text.specs.declared.names.ReplyName.{ReplyName}
 use Rattle.history_text.specs.declared.names.ReplyName.TheVariants as names
-use Rattle.history_text.specs.Names.{option_of, option_text, reply_name_of, reply_name_text}
-use Rattle.history_text.specs.Ranges.{IsNumber, IsThread, IsId, AreIds, AreStats, IsReply, IsEntry, IsSpelled}
-use Rattle.history_text.specs.Lines.{least, most, IsSetting, IsRanged, CanBeSpelled, setting_words, line_words, bare_line}
+use Rattle.call_words.specs.Options.{option_of, option_text, option_words, least}
+use Rattle.history_text.specs.Names.{reply_name_of, reply_name_text}
+use Rattle.call_words.specs.Ranges.{IsNumber, IsThread, IsId, IsSpelled}
+use Rattle.history_text.specs.Ranges.{AreIds, AreStats, IsReply, IsEntry}
+use Rattle.history_text.specs.Lines.{most, IsSetting, IsRanged, CanBeSpelled, setting_words, line_words, bare_line}
 use Rattle.history_text.specs.Words.{ids_words, stats_words, reply_words, entry_words, end_words}
 use Rattle.history_text.specs.Reading.{fixed_at, number_at, named_at, stats_at, ids_at, list_at, settled_by, misuse_of, reply_by, plain_reply, reply_of, entry_of, setting_to, setting_of, end_of, line_of}
-use Rattle.history_text.proofs.WordForms.{number, digits_all}
-use Rattle.history_text.proofs.ReadAgain.{id_spelled, id_is, call_again}
+use Rattle.call_words.proofs.OptionNames.{option_from}
+use Rattle.call_words.proofs.WrittenNumbers.{decimal_in, decimal_digits, id_spelled, id_in}
+use Rattle.history_text.proofs.ReadAgain.{call_again}
 
 -- numbers
 number_is : NumbersAreRead → (n : ℕ) → IsNumber n → number_in 0 18446744073709551615 (decimal n) ≡ Some n
-number_is numbers n h = (numbers 0 18446744073709551615 (decimal n) n).1 (number 0 18446744073709551615 n (omega arith) h (omega arith))
+number_is numbers n h = (numbers 0 18446744073709551615 (decimal n) n).1 (decimal_in 0 18446744073709551615 n (omega arith) h (omega arith))
 
 next_number_is : NumbersAreRead → (n : ℕ) (left : List (List ℕ)) → IsNumber n → number_at (decimal n ∷ left) ≡ Some (n, left)
 unfolding next_as
@@ -47,10 +50,10 @@ next_number_is numbers n left h = rw (number_is numbers n h) refl
 
 thread_is : NumbersAreRead → (t : ℕ) (left : List (List ℕ)) → IsThread t → next_as thread_of (decimal t ∷ left) ≡ Some (t, left)
 unfolding next_as thread_of
-thread_is numbers t left h = rw ((numbers 1 16 (decimal t) t).1 (number 1 16 t h.0 h.1 (omega arith))) refl
+thread_is numbers t left h = rw ((numbers 1 16 (decimal t) t).1 (decimal_in 1 16 t h.0 h.1 (omega arith))) refl
 
 id_read : NumbersAreRead → (id : BlockId) → IsId id → block_of (id_text id) ≡ Some id
-id_read numbers id h = id_from_parts numbers (id_text id) id (id_is id h)
+id_read numbers id h = id_from_parts numbers (id_text id) id (id_in id h)
 
 next_id_is : NumbersAreRead → (id : BlockId) (left : List (List ℕ)) → IsId id → next_as block_of (id_text id ∷ left) ≡ Some (id, left)
 unfolding next_as
@@ -67,7 +70,7 @@ begins_by [] l h rest = absurd (omega arith)
 begins_by (b ∷ ds) l h rest = (and_parts (is_ascii_digit b) (list_all is_ascii_digit ds) h).0
 
 decimal_begins : (n : ℕ) (rest : List ℕ) → IsNumber n → BeginsWithDigit (decimal n ++ rest)
-decimal_begins n rest h = begins_by (decimal n) (decimal_nonempty n (omega arith)) (digits_all n h) rest
+decimal_begins n rest h = begins_by (decimal n) (decimal_nonempty n (omega arith)) (decimal_digits n (omega arith)) rest
 
 number_begins : (n : ℕ) → IsNumber n → BeginsWithDigit (decimal n)
 number_begins n h = subst BeginsWithDigit (append-nil (decimal n)) (decimal_begins n [] h)
@@ -246,15 +249,11 @@ below_all option.Counts n h = omega arith
 below_all option.Pending n h = omega arith
 
 option_is : (name : OptionName) (left : List (List ℕ)) → next_as option_of (option_text name ∷ left) ≡ Some (name, left)
-unfolding next_as option_of
-option_is option.Heap left = refl
-option_is option.Local left = refl
-option_is option.Serials left = refl
-option_is option.Counts left = refl
-option_is option.Pending left = refl
+unfolding next_as
+option_is name left = rw (option_from name) refl
 
 setting_again : NumbersAreRead → (s : Setting) → IsSetting s → line_of (setting_words s) ≡ Some (line.Setting s)
-unfolding line_of setting_words setting_of
+unfolding line_of setting_words option_words setting_of
 setting_again numbers s h = rw (option_is s.name (decimal s.number ∷ []), next_number_is numbers s.number [] (below_all s.name s.number h.1), in_range s.name s.number h.0 h.1) refl
 
 end_again : NumbersAreRead → (count : ℕ) (s : Stats) → IsNumber count → AreStats s → line_of (end_words count s) ≡ Some (line.End count s)

@@ -1,43 +1,23 @@
--- Words that are added one after the other
-use Rattle.std.proofs.Common.{◌≡◌, ℕ, ◌+◌, ◌<◌, List, [], ◌∷◌, ◌++◌, length, take, get_or, map, sym, ap, ◌∙◌, append_assoc, append-nil, codes, Result, Ok, Err, OnOk}
-use Rattle.std.specs.List.{flat_map}
+-- Words of ids and of the last line, one after the other
+use Rattle.std.proofs.Common.{◌≡◌, ℕ, ◌+◌, ◌<◌, List, [], ◌∷◌, ◌++◌, length, take, get_or, map, sym, ap, ◌∙◌, append_assoc, append-nil, codes}
 use Rattle.std.proofs.lemmas.List.{take_more}
-use Rattle.std.proofs.lemmas.List.Concat.{flat_map-append}
 use Rattle.std.specs.Fmt.{decimal}
 use Rattle.zone_model.specs.declared.entry.Stats.{Stats}
-use Rattle.history_text.specs.Spacing.{spread, spaced}
+use Rattle.call_words.specs.Spacing.{spread, spaced}
+use Rattle.call_words.proofs.Spreading.{spread_append}
 use Rattle.history_text.specs.Words.{stats_words, end_words}
-
-spread_append : (xs ys : List (List ℕ)) → spread (xs ++ ys) ≡ spread xs ++ spread ys
-spread_append xs ys = flat_map-append (λ word. 32 ∷ word) xs ys
-
--- so many elements as words, and one element more
-pub words_more : {X : Type 0} (f : X → List (List ℕ)) (xs : List X) (i : ℕ) (d : X) → i < length xs
-    → spread (flat_map f (take (i + 1) xs)) ≡ spread (flat_map f (take i xs)) ++ spread (f (get_or xs i d))
-words_more f xs i d l =
-    ap (λ ys. spread (flat_map f ys)) (take_more xs i d l) ∙ ap spread (flat_map-append f (take i xs) (get_or xs i d ∷ []))
-    ∙ ap (λ ws. spread (flat_map f (take i xs) ++ ws)) (append-nil (f (get_or xs i d))) ∙ spread_append (flat_map f (take i xs)) (f (get_or xs i d))
 
 map_one : {X : Type 0} (f : X → List ℕ) (xs : List X) (x : X) → spread (map f (xs ++ x ∷ [])) ≡ spread (map f xs) ++ 32 ∷ f x
 map_one f [] x = append-nil (32 ∷ f x)
 map_one f (y ∷ ys) x = ap (λ ws. (32 ∷ f y) ++ ws) (map_one f ys x) ∙ sym (append_assoc (32 ∷ f y) (spread (map f ys)) (32 ∷ f x))
 
--- the same where each element is one word
+-- so many elements as words, and one element more
 pub one_word_more : {X : Type 0} (f : X → List ℕ) (xs : List X) (i : ℕ) (d : X) → i < length xs
     → spread (map f (take (i + 1) xs)) ≡ spread (map f (take i xs)) ++ 32 ∷ f (get_or xs i d)
 one_word_more f xs i d l = ap (λ ys. spread (map f ys)) (take_more xs i d l) ∙ map_one f (take i xs) (get_or xs i d)
-
--- what was added in two steps
-pub added : (old middle new first second both : List ℕ) → middle ≡ old ++ first → new ≡ middle ++ second → both ≡ first ++ second → new ≡ old ++ both
-added old middle new first second both m n b = n ∙ ap (λ t. t ++ second) m ∙ append_assoc old first second ∙ ap (λ t. old ++ t) (sym b)
 
 pub end_spelled : (count : ℕ) (s : Stats) → spaced (end_words count s) ≡ (codes "end" ++ spread (codes "entries" ∷ decimal count ∷ [])) ++ spread (stats_words s)
 unfolding end_words
 end_spelled count s =
     ap (λ t. codes "end" ++ t) (spread_append (codes "entries" ∷ decimal count ∷ []) (stats_words s))
     ∙ sym (append_assoc (codes "end") (spread (codes "entries" ∷ decimal count ∷ [])) (spread (stats_words s)))
-
--- the same where the second step may have failed
-pub on_added : {T E : Type 0} (r : Result T E) (old middle new first second both : List ℕ) → middle ≡ old ++ first → both ≡ first ++ second → OnOk r (new ≡ middle ++ second) → OnOk r (new ≡ old ++ both)
-on_added (Ok x) old middle new first second both m b n = added old middle new first second both m n b
-on_added (Err e) old middle new first second both m b n = tt

@@ -14,12 +14,14 @@ use Rattle.zone_model.specs.declared.entry.Stats.{Stats}
 use Rattle.history_text.specs.declared.draft.Draft.{Draft}
 use Rattle.history_text.specs.declared.lines.HistoryLine.{HistoryLine}
 use Rattle.history_text.specs.declared.lines.HistoryLine.TheVariants as line
-use Rattle.history_text.specs.declared.lines.OptionName.{OptionName}
-use Rattle.history_text.specs.declared.lines.OptionName.TheVariants as option
+use Rattle.call_words.specs.declared.options.OptionName.{OptionName}
+use Rattle.call_words.specs.declared.options.OptionName.TheVariants as option
 use Rattle.history_text.specs.declared.lines.Setting.{Setting}
 use Rattle.history_text.specs.Laws.{LinesHaveOneReading}
-use Rattle.history_text.specs.Ranges.{IsNumber, IsEntry, IsSpelled}
-use Rattle.history_text.specs.Lines.{least, most, IsSetting, IsRanged, CanBeSpelled, bare_line, line_text}
+use Rattle.call_words.specs.Ranges.{IsNumber, IsSpelled}
+use Rattle.history_text.specs.Ranges.{IsEntry}
+use Rattle.call_words.specs.Options.{least}
+use Rattle.history_text.specs.Lines.{most, IsSetting, IsRanged, CanBeSpelled, bare_line, line_text}
 use Rattle.history_text.specs.Texts.{unless_usual, settings_of, setting_lines, entry_lines, lines_before_end, lines_of_history, fed, lines_text, IsText, BeginsText, HasNoFeed, IsWrongAt}
 use Rattle.history_text.specs.Drafts.{IsDraft, HasLine, IsEndOf, CannotFollow, lines_so_far, line_place, next_place}
 use Rattle.history_text.proofs.LineLaws.{has_no_feed}

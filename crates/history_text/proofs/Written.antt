@@ -1,20 +1,23 @@
 -- Lines that are written one after the other
-use Rattle.std.proofs.Common.{◌≡◌, ℕ, ◌+◌, ◌<◌, List, [], ◌∷◌, ◌++◌, length, take, get_or, map, Result, OnOk, sym, ap, ◌∙◌, append_assoc, append-nil}
-use Rattle.std.proofs.lemmas.Bool.{ne_eqb, eq-eqb}
+use Rattle.std.proofs.Common.{◌≡◌, ℕ, ◌+◌, ◌<◌, true, false, cond, eqb, List, [], ◌∷◌, ◌++◌, length, take, get_or, map, refl, sym, ap, ◌∙◌, append_assoc}
+use Rattle.std.specs.List.{flat_map}
 use Rattle.std.proofs.lemmas.List.{take_more, map-append}
 use Rattle.std.proofs.lemmas.List.Concat.{flat_map-append}
 use Rattle.az_base.specs.declared.options.Options.{Options}
+use Rattle.az_base.specs.OptionRanges.{usual_options}
 use Rattle.zone_model.specs.declared.entry.Entry.{Entry}
 use Rattle.zone_model.specs.declared.entry.Stats.{Stats}
 use Rattle.history_text.specs.declared.lines.HistoryLine.{HistoryLine}
 use Rattle.history_text.specs.declared.lines.HistoryLine.TheVariants as line
-use Rattle.history_text.specs.declared.lines.OptionName.{OptionName}
+use Rattle.call_words.specs.declared.options.OptionName.{OptionName}
+use Rattle.call_words.specs.declared.options.OptionName.TheVariants as option
 use Rattle.history_text.specs.declared.lines.Setting.{Setting}
-use Rattle.history_text.specs.Spacing.{spaced}
+use Rattle.call_words.specs.Spacing.{spaced, fed_line}
+use Rattle.call_words.specs.Options.{option_words, option_lines, options_lines}
 use Rattle.history_text.specs.Words.{entry_words, end_words}
 use Rattle.history_text.specs.Lines.{setting_words, line_words, line_text}
 use Rattle.history_text.specs.Texts.{unless_usual, settings_of, setting_lines, entry_lines, lines_before_end, fed, lines_text, text_of}
-use Rattle.history_text.proofs.Spreading.{added, on_added}
+use Rattle.call_words.proofs.Spreading.{added}
 use Rattle.history_text.proofs.Standing.{text_more}
 
 pub text_append : (xs ys : List HistoryLine) → lines_text (xs ++ ys) ≡ lines_text xs ++ lines_text ys
@@ -25,26 +28,25 @@ text_append xs ys =
 settings_append : (a b : List Setting) → lines_text (setting_lines (a ++ b)) ≡ lines_text (setting_lines a) ++ lines_text (setting_lines b)
 settings_append a b = ap lines_text (map-append line.Setting a b) ∙ text_append (setting_lines a) (setting_lines b)
 
--- an option at its default has no line
-pub no_line : (name : OptionName) (usual n : ℕ) (old : List ℕ) → n ≡ usual → old ≡ old ++ lines_text (setting_lines (unless_usual name usual n))
-no_line name usual n old h = rw (eq-eqb n usual h) (sym (append-nil old))
+-- an option is written as its line, where it has one
+one_option : (name : OptionName) (usual n : ℕ) → lines_text (setting_lines (unless_usual name usual n)) ≡ flat_map fed_line (option_lines name usual n)
+unfolding line_words setting_words option_lines
+one_option name usual n =
+    elim (eqb n usual) as (λ b. lines_text (setting_lines (cond b [] (record { name = name; number = n } ∷ []))) ≡ flat_map fed_line (cond b [] (option_words name n ∷ []))) [ true ↦ refl | false ↦ refl ]
 
--- and any other number has one
-pub one_line : {T E : Type 0} (r : Result T E) (name : OptionName) (usual n : ℕ) (old middle new : List ℕ) → (n ≡ usual → ⊥) → middle ≡ old ++ spaced (setting_words (record { name = name; number = n }))
-    → OnOk r (new ≡ middle ++ 10 ∷ []) → OnOk r (new ≡ old ++ lines_text (setting_lines (unless_usual name usual n)))
-unfolding line_words
-one_line r name usual n old middle new other m a =
-    let text = spaced (setting_words (record { name = name; number = n })) in
-    on_added r old middle new text (10 ∷ []) (lines_text (setting_lines (unless_usual name usual n))) m (rw (ne_eqb n usual other) (append-nil (text ++ 10 ∷ []))) a
+joined : (a b : List Setting) (x y : List (List (List ℕ))) → lines_text (setting_lines a) ≡ flat_map fed_line x → lines_text (setting_lines b) ≡ flat_map fed_line y → lines_text (setting_lines (a ++ b)) ≡ flat_map fed_line (x ++ y)
+joined a b x y p q = settings_append a b ∙ ap (λ t. t ++ lines_text (setting_lines b)) p ∙ ap (λ t. flat_map fed_line x ++ t) q ∙ sym (flat_map-append fed_line x y)
 
--- five options
-pub five_lines : {T E : Type 0} (r : Result T E) (a b c d e : List Setting) (old after_a after_b after_c after_d new : List ℕ) → after_a ≡ old ++ lines_text (setting_lines a) → after_b ≡ after_a ++ lines_text (setting_lines b)
-    → after_c ≡ after_b ++ lines_text (setting_lines c) → after_d ≡ after_c ++ lines_text (setting_lines d) → OnOk r (new ≡ after_d ++ lines_text (setting_lines e)) → OnOk r (new ≡ old ++ lines_text (setting_lines (a ++ b ++ c ++ d ++ e)))
-five_lines r a b c d e old after_a after_b after_c after_d new p q s t u =
-    let ab = added old after_a after_b _ _ _ p q (settings_append a b) in
-    let abc = added old after_b after_c _ _ _ ab s (settings_append (a ++ b) c) in
-    let abcd = added old after_c after_d _ _ _ abc t (settings_append (a ++ b ++ c) d) in
-    on_added r old after_d new _ _ _ abcd (settings_append (a ++ b ++ c ++ d) e) u
+-- the options are written as their lines
+pub options_text : (o : Options) → lines_text (setting_lines (settings_of o)) ≡ flat_map fed_line (options_lines o)
+unfolding options_lines
+options_text o =
+    let u : Options = usual_options in
+    joined _ _ _ _
+    (joined _ _ _ _
+    (joined _ _ _ _ (joined _ _ _ _ (one_option option.Heap u.heap_quanta o.heap_quanta) (one_option option.Local u.local_quanta o.local_quanta)) (one_option option.Serials u.serials o.serials))
+    (one_option option.Counts u.counts o.counts))
+    (one_option option.Pending u.pending o.pending)
 
 -- one entry more
 pub entry_more : (entries : List Entry) (i : ℕ) (d : Entry) (old before middle new : List ℕ) → i < length entries → before ≡ old ++ lines_text (entry_lines (take i entries)) → middle ≡ before ++ spaced (entry_words (get_or entries i d))

@@ -9,10 +9,11 @@ use Rattle.zone_model.specs.declared.entry.Stats.{Stats}
 use Rattle.history_text.specs.declared.draft.Draft.{Draft}
 use Rattle.history_text.specs.declared.lines.HistoryLine.{HistoryLine}
 use Rattle.history_text.specs.declared.lines.HistoryLine.TheVariants as line
-use Rattle.history_text.specs.declared.lines.OptionName.{OptionName}
-use Rattle.history_text.specs.declared.lines.OptionName.TheVariants as option
+use Rattle.call_words.specs.declared.options.OptionName.{OptionName}
+use Rattle.call_words.specs.declared.options.OptionName.TheVariants as option
 use Rattle.history_text.specs.declared.lines.Setting.{Setting}
-use Rattle.history_text.specs.Ranges.{IsNumber, IsEntry, IsSpelled, AreStats}
+use Rattle.call_words.specs.Ranges.{IsNumber, IsSpelled}
+use Rattle.history_text.specs.Ranges.{IsEntry, AreStats}
 use Rattle.history_text.specs.Lines.{IsLine, bare_line, line_text}
 use Rattle.history_text.specs.Texts.{lines_before_end, lines_of_history}
 

@@ -1,4 +1,3 @@
-pub mod Spacing
 pub mod Words
 pub mod Names
 pub mod Ranges

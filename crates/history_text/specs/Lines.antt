@@ -1,26 +1,18 @@
 -- The lines of a history
-use Rattle.std.specs.Prelude.{◌≡◌, ◌≤◌, ℕ, List, [], ◌∷◌, Result, Ok, Err, codes}
-use Rattle.std.specs.Fmt.{decimal}
+use Rattle.std.specs.Prelude.{◌≡◌, ◌≤◌, ℕ, List, Result, Ok, Err}
 use Rattle.zone_model.specs.Bare.{bare_entry}
 use Rattle.call_words.specs.declared.argument_err.ArgumentErr.{ArgumentErr}
 use Rattle.call_words.specs.declared.argument_err.ArgumentErr.TheVariants as errors
 use Rattle.history_text.specs.declared.lines.HistoryLine.{HistoryLine}
 use Rattle.history_text.specs.declared.lines.HistoryLine.TheVariants as line
-use Rattle.history_text.specs.declared.lines.OptionName.{OptionName}
-use Rattle.history_text.specs.declared.lines.OptionName.TheVariants as option
+use Rattle.call_words.specs.declared.options.OptionName.{OptionName}
+use Rattle.call_words.specs.declared.options.OptionName.TheVariants as option
 use Rattle.history_text.specs.declared.lines.Setting.{Setting}
-use Rattle.history_text.specs.Names.{option_text}
-use Rattle.history_text.specs.Ranges.{IsNumber, AreStats, IsEntry, IsSpelled}
-use Rattle.history_text.specs.Spacing.{spaced}
+use Rattle.call_words.specs.Spacing.{spaced}
+use Rattle.call_words.specs.Options.{least, option_words}
+use Rattle.call_words.specs.Ranges.{IsNumber, IsSpelled}
+use Rattle.history_text.specs.Ranges.{AreStats, IsEntry}
 use Rattle.history_text.specs.Words.{entry_words, end_words}
-
--- the least number of an option
-abbrev pub least : OptionName → ℕ
-least option.Heap = 1
-least option.Local = 0
-least option.Serials = 1
-least option.Counts = 1
-least option.Pending = 1
 
 -- the largest number of an option line, one below the default
 abbrev pub most : OptionName → ℕ
@@ -36,7 +28,7 @@ IsSetting s = (least s.name ≤ s.number) × (s.number ≤ most s.name)
 
 -- an option and its number
 unfoldable pub setting_words : Setting → List (List ℕ)
-setting_words s = codes "option" ∷ option_text s.name ∷ decimal s.number ∷ []
+setting_words s = option_words s.name s.number
 
 -- the words of a line
 unfoldable pub line_words : HistoryLine → List (List ℕ)

@@ -4,24 +4,10 @@ use Rattle.az_base.specs.declared.action.Mode.{Mode}
 use Rattle.az_base.specs.declared.action.Mode.TheVariants as mode
 use Rattle.az_base.specs.Texts.{mode_text}
 use Rattle.az_words.specs.Names.{name_among}
-use Rattle.history_text.specs.declared.lines.OptionName.{OptionName}
-use Rattle.history_text.specs.declared.lines.OptionName.TheVariants as option
 use Rattle.history_text.specs.declared.names.ReplyName.{ReplyName}
 use Rattle.history_text.specs.declared.names.ReplyName.TheVariants as reply
 use Rattle.history_text.specs.declared.names.StepName.{StepName}
 use Rattle.history_text.specs.declared.names.StepName.TheVariants as step
-
--- how an option is written
-abbrev pub option_text : OptionName → List ℕ
-option_text option.Heap = codes "heap"
-option_text option.Local = codes "local"
-option_text option.Serials = codes "serials"
-option_text option.Counts = codes "counts"
-option_text option.Pending = codes "pending"
-
--- the option that a word names
-unfoldable pub option_of : List ℕ → Option OptionName
-option_of word = name_among option_text (option.Heap ∷ option.Local ∷ option.Serials ∷ option.Counts ∷ option.Pending ∷ []) word
 
 -- how a step is written
 abbrev pub step_text : StepName → List ℕ

@@ -21,14 +21,15 @@ use Rattle.call_words.specs.Reading.Words.{thread_of, block_of}
 use Rattle.call_words.specs.Reading.Calls.{◌>>=◌, next_as, act_at}
 use Rattle.history_text.specs.declared.lines.HistoryLine.{HistoryLine}
 use Rattle.history_text.specs.declared.lines.HistoryLine.TheVariants as line
-use Rattle.history_text.specs.declared.lines.OptionName.{OptionName}
+use Rattle.call_words.specs.declared.options.OptionName.{OptionName}
 use Rattle.history_text.specs.declared.lines.Setting.{Setting}
 use Rattle.history_text.specs.declared.names.ReplyName.{ReplyName}
 use Rattle.history_text.specs.declared.names.ReplyName.TheVariants as names
 use Rattle.history_text.specs.declared.names.StepName.{StepName}
 use Rattle.history_text.specs.declared.names.StepName.TheVariants as steps
-use Rattle.history_text.specs.Lines.{least, most}
-use Rattle.history_text.specs.Names.{option_of, step_of, mode_of, reply_name_of}
+use Rattle.call_words.specs.Options.{option_of, least}
+use Rattle.history_text.specs.Lines.{most}
+use Rattle.history_text.specs.Names.{step_of, mode_of, reply_name_of}
 
 -- what a function answered, seen by view, is what reading gives, unless memory ran out
 abbrev pub Gives : {X Y : Type 0} → (X → Y) → Result X ArgumentErr → Option Y → Type 0

@@ -8,19 +8,12 @@ use Rattle.zone_model.specs.declared.entry.Entry.{Entry}
 use Rattle.zone_model.specs.declared.entry.Stats.{Stats}
 use Rattle.history_text.specs.declared.lines.HistoryLine.{HistoryLine}
 use Rattle.history_text.specs.declared.lines.HistoryLine.TheVariants as line
-use Rattle.history_text.specs.declared.lines.OptionName.{OptionName}
-use Rattle.history_text.specs.declared.lines.OptionName.TheVariants as option
+use Rattle.call_words.specs.declared.options.OptionName.{OptionName}
+use Rattle.call_words.specs.declared.options.OptionName.TheVariants as option
 use Rattle.history_text.specs.declared.lines.Setting.{Setting}
-use Rattle.history_text.specs.Ranges.{IsNumber, IsEntry, IsSpelled, AreStats}
+use Rattle.call_words.specs.Ranges.{IsNumber, IsSpelled}
+use Rattle.history_text.specs.Ranges.{IsEntry, AreStats}
 use Rattle.history_text.specs.Lines.{line_text}
-
--- the number of an option
-abbrev pub number_of : OptionName → Options → ℕ
-number_of option.Heap o = o.heap_quanta
-number_of option.Local o = o.local_quanta
-number_of option.Serials o = o.serials
-number_of option.Counts o = o.counts
-number_of option.Pending o = o.pending
 
 -- an option, where it isn't at its default
 abbrev pub unless_usual : OptionName → ℕ → ℕ → List Setting
@@ -54,10 +47,6 @@ fed lines = flat_map (λ bytes. bytes ++ 10 ∷ []) lines
 -- the text of lines
 abbrev pub lines_text : List HistoryLine → List ℕ
 lines_text lines = fed (map line_text lines)
-
--- the line of an option that isn't at its default
-abbrev pub option_line : OptionName → Options → List ℕ
-option_line name o = lines_text (setting_lines (unless_usual name (number_of name usual_options) (number_of name o)))
 
 -- the text of a history
 abbrev pub text_of : Options → List Entry → Stats → List ℕ

@@ -6,10 +6,10 @@ ghost use Rattle.history_text.specs.Lines.{IsSetting};
 ghost use Rattle.history_text.specs.Drafts.{IsDraft, TakesLine, place_of, with_setting, with_line};
 
 use crate::laws::lines_have_one_reading;
-use crate::lines::{HistoryLine, OptionName, Setting};
+use crate::lines::{HistoryLine, Setting};
 use crate::read::read_line;
 use az_base::Options;
-use call_words::ArgumentErr;
+use call_words::{ArgumentErr, OptionName};
 use std::alloc::Global;
 use zone_history::Journal;
 use zone_model::{Entry, Stats};

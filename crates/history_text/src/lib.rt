@@ -20,12 +20,10 @@
 //! stands before it can go on to be a text, and nothing goes on from it.
 #![tactic(auto)]
 
-mod calls;
 mod draft;
 mod laws;
 mod lines;
 mod names;
-mod pieces;
 mod read;
 mod reading;
 mod replies;
@@ -36,7 +34,7 @@ pub use laws::{
     lines_have_one_reading, one_line_is_the_first_wrong_one, texts_are_read_back,
     texts_have_one_reading,
 };
-pub use lines::{HistoryLine, OptionName, Setting, push_end, push_entry, push_line, push_setting};
+pub use lines::{HistoryLine, Setting, push_end, push_entry, push_line, push_setting};
 pub use read::read_line;
 pub use texts::{HistoryText, TextErr, read_text};
 pub use writing::write_text;

@@ -1,26 +1,15 @@
 //! The lines of a history.
 ghost use Rattle.std.specs.Prelude.{◌≡◌, OnOk, string_bytes};
-ghost use Rattle.history_text.specs.Spacing.{Adds, spaced};
+ghost use Rattle.call_words.specs.Spacing.{Adds, spaced};
+ghost use Rattle.call_words.specs.Ranges.{IsNumber};
 ghost use Rattle.history_text.specs.Words.{entry_words, end_words};
-ghost use Rattle.history_text.specs.Ranges.{IsNumber, IsEntry, AreStats};
-ghost use Rattle.history_text.specs.Names.{option_text};
+ghost use Rattle.history_text.specs.Ranges.{IsEntry, AreStats};
 ghost use Rattle.history_text.specs.Lines.{HasNumbers, setting_words, line_text};
 
-use crate::calls::push_call;
-use crate::pieces::{push_named, push_number, push_thread, push_word};
 use crate::replies::{push_reply, push_stats};
+use call_words::{OptionName, push_call, push_named, push_option, push_thread, push_word};
 use std::alloc::AllocError;
 use zone_model::{Entry, Stats};
-
-/// An option.
-#[derive(Clone, Copy)]
-pub enum OptionName {
-    Heap,
-    Local,
-    Serials,
-    Counts,
-    Pending,
-}
 
 /// An option with a number.
 #[derive(Clone, Copy)]
@@ -39,26 +28,12 @@ pub enum HistoryLine {
     End(u64, Stats),
 }
 
-fn option_word(name: OptionName) -> &'static str
-    ensures { result.now ≡ option_text name }
-{
-    match name {
-        OptionName::Heap => "heap",
-        OptionName::Local => "local",
-        OptionName::Serials => "serials",
-        OptionName::Counts => "counts",
-        OptionName::Pending => "pending",
-    }
-}
-
 /// Adds the line of an option, without its line feed.
 #[tactic(auto, unfolding(crate::specs::Lines::setting_words))]
 pub fn push_setting(out: &mut String, setting: Setting) -> Result<(), AllocError>
     ensures { Adds (string_bytes out.old) (string_bytes out.new) result (spaced (setting_words setting)) }
 {
-    out.push_str("option")?;
-    push_word(out, option_word(setting.name))?;
-    push_number(out, setting.number)
+    push_option(out, setting.name, setting.number)
 }
 
 /// Adds the line of an entry, without its line feed. O(bytes added).

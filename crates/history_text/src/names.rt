@@ -1,8 +1,7 @@
 //! The names of what histories have and scripts don't.
 ghost use Rattle.std.specs.Prelude.{◌≡◌};
-ghost use Rattle.history_text.specs.Names.{option_of, mode_of, step_of, reply_name_of};
+ghost use Rattle.history_text.specs.Names.{mode_of, step_of, reply_name_of};
 
-use crate::lines::OptionName;
 use az_base::Mode;
 use az_words::is_word;
 
@@ -45,26 +44,6 @@ pub fn mode_name(word: &[u8]) -> Option<Mode>
         Some(Mode::Young)
     } else if is_word(word, b"full") {
         Some(Mode::Full)
-    } else {
-        None
-    }
-}
-
-/// The option that a word names; None exactly where it names none.
-#[tactic(auto, unfolding(crate::specs::Names::option_of))]
-pub fn option_name(word: &[u8]) -> Option<OptionName>
-    ensures { result ≡ option_of word.now }
-{
-    if is_word(word, b"heap") {
-        Some(OptionName::Heap)
-    } else if is_word(word, b"local") {
-        Some(OptionName::Local)
-    } else if is_word(word, b"serials") {
-        Some(OptionName::Serials)
-    } else if is_word(word, b"counts") {
-        Some(OptionName::Counts)
-    } else if is_word(word, b"pending") {
-        Some(OptionName::Pending)
     } else {
         None
     }

@@ -4,16 +4,18 @@
 ghost use Rattle.std.specs.Prelude.{◌≡◌, ◌≤◌};
 ghost use Rattle.zone_model.specs.Bare.{bare_reply, bare_entry};
 ghost use Rattle.call_words.specs.Reading.Calls.{Reads, next_as};
-ghost use Rattle.history_text.specs.Lines.{least, most, bare_line};
-ghost use Rattle.history_text.specs.Names.{option_of, mode_of};
+ghost use Rattle.call_words.specs.Options.{least};
+ghost use Rattle.history_text.specs.Lines.{most, bare_line};
+ghost use Rattle.history_text.specs.Names.{mode_of};
 ghost use Rattle.history_text.specs.Reading.{Gives, Takes, step_by, call_by, call_at, fixed_at, named_at, stats_at, ids_at, list_at, settled_by, misuse_of, reply_by, plain_reply, reply_of, entry_of, setting_to, setting_of, end_of, line_of};
 
-use crate::lines::{HistoryLine, OptionName, Setting};
-use crate::names::{ReplyName, StepName, mode_name, option_name, reply_name, step_name};
+use crate::lines::{HistoryLine, Setting};
+use crate::names::{ReplyName, StepName, mode_name, reply_name, step_name};
 use az_base::{Misuse, Mode};
 use az_words::{Words, is_word, number};
 use call_words::{
-    ArgumentErr, CallName, arguments, call_name, next_block, next_thread, next_wide_number,
+    ArgumentErr, CallName, OptionName, arguments, call_name, next_block, next_option, next_thread,
+    next_wide_number,
 };
 use std::alloc::Global;
 use zone_model::{Act, Call, Entry, IdList, Reply, Stats};
@@ -27,14 +29,6 @@ fn next_mode(words: &mut Words) -> Option<Mode>
 {
     let word = words.next()?;
     mode_name(word)
-}
-
-#[tactic(auto, unfolding(call_words::specs::Reading::Calls::next_as))]
-fn next_option(words: &mut Words) -> Option<OptionName>
-    ensures { Reads result words.new (next_as option_of words.old) }
-{
-    let word = words.next()?;
-    option_name(word)
 }
 
 #[tactic(auto, unfolding(crate::specs::Reading::step_by))]

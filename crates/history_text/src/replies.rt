@@ -1,12 +1,13 @@
 //! Replies as words.
 ghost use Rattle.std.specs.Prelude.{◌≡◌, All, OnOk, map, string_bytes};
 ghost use Rattle.az_base.specs.Texts.{id_text, misuse_name};
-ghost use Rattle.history_text.specs.Spacing.{Adds, spread};
+ghost use Rattle.call_words.specs.Spacing.{Adds, spread};
+ghost use Rattle.call_words.specs.Ranges.{IsId};
 ghost use Rattle.history_text.specs.Words.{ids_words, stats_words, reply_words};
-ghost use Rattle.history_text.specs.Ranges.{IsId, AreIds, AreStats, IsReply};
+ghost use Rattle.history_text.specs.Ranges.{AreIds, AreStats, IsReply};
 
-use crate::pieces::{push_id, push_named, push_number, push_word};
 use az_base::{BlockId, Misuse};
+use call_words::{push_id, push_named, push_number, push_word};
 use std::alloc::AllocError;
 use zone_model::{Reply, Stats};
 

@@ -4,10 +4,10 @@ use Rattle.std.specs.Str.{is_utf8}
 use Rattle.az_base.specs.OptionRanges.{usual_options}
 use Rattle.az_words.specs.Lines.{lines_of}
 use Rattle.az_words.specs.Words.{words_of}
-use Rattle.az_words.specs.Names.{name_among}
 use Rattle.az_words.specs.Numerals.{number_in}
 use Rattle.call_words.specs.declared.names.CallName.{CallName}
 use Rattle.call_words.specs.Names.{name_of}
+use Rattle.call_words.specs.Options.{option_of, least}
 use Rattle.call_words.specs.Reading.Words.{thread_of}
 use Rattle.call_words.specs.Reading.Calls.{next_as, act_at}
 use Rattle.heap_script.specs.declared.cause.Cause.{Cause}
@@ -20,11 +20,9 @@ use Rattle.heap_script.specs.declared.entries.Entry.{Entry}
 use Rattle.heap_script.specs.declared.entries.Entry.TheVariants as entry
 use Rattle.heap_script.specs.declared.line.Line.{Line}
 use Rattle.heap_script.specs.declared.script.Script.{Script}
-use Rattle.heap_script.specs.declared.setting.OptionName.{OptionName}
-use Rattle.heap_script.specs.declared.setting.OptionName.TheVariants as option
 use Rattle.heap_script.specs.declared.setting.Setting.{Setting}
 use Rattle.heap_script.specs.Built.{is_built_before, most_actions}
-use Rattle.heap_script.specs.Settings.{option_text, least, largest, setting_to}
+use Rattle.heap_script.specs.Settings.{largest, setting_to}
 use Rattle.heap_script.specs.Lines.{is_skipped, called_after}
 use Rattle.heap_script.specs.Refusals.{after_option, Refusal}
 use Rattle.heap_script.specs.Scripts.{options_after, calls_of}
@@ -82,10 +80,6 @@ line_at words = do
 -- a call line, and no more
 unfoldable pub line_of : List (List ℕ) → Result Line Cause
 line_of words = whole (line_at words)
-
--- the option that a word names
-unfoldable pub option_of : List ℕ → Option OptionName
-option_of word = name_among option_text (option.Heap ∷ option.Local ∷ option.Serials ∷ option.Counts ∷ option.Pending ∷ []) word
 
 -- an option and a number in its range, and no more
 unfoldable pub setting_of : List (List ℕ) → Result Setting Cause

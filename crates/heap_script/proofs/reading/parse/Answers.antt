@@ -83,5 +83,8 @@ returns-clause-threads c = (playable c).threads
 pub returns-clause-built : goal.returns-clause-built
 returns-clause-built c = (playable c).built
 
+pub returns-clause-spelled : goal.returns-clause-spelled
+returns-clause-spelled c = (playable c).spelled
+
 pub read_entry-requires : goal.read_entry-requires
 read_entry-requires c = λ is. (c.in-Some.ensures.text (c.lines.invariant.text is)).0

@@ -1,8 +1,9 @@
 use Rattle.std.proofs.Common.{[], ◌∷◌, ◌++◌, codes, refl}
 use Rattle.std.specs.Fmt.{decimal}
-use Rattle.history_text.specs.Spacing.{spread}
+use Rattle.call_words.specs.Spacing.{spread}
 use Rattle.history_text.specs.Words.{stats_words}
-use Rattle.history_text.proofs.Spreading.{end_spelled, on_added, added}
+use Rattle.call_words.proofs.Spreading.{on_added, added}
+use Rattle.history_text.proofs.Spreading.{end_spelled}
 use Rattle.history_text.proofs.lines.push_end.Goals as goal
 
 pub returns-clause-adds : goal.returns-clause-adds

@@ -1,9 +1,10 @@
 use Rattle.std.proofs.Common.{◌∷◌, ◌++◌, take, map, subst, sym, ap, ◌∙◌, arith}
 use Rattle.std.proofs.lemmas.List.Elements.{All-more}
 use Rattle.az_base.specs.Texts.{id_text}
-use Rattle.history_text.specs.Spacing.{spread}
-use Rattle.history_text.specs.Ranges.{IsId}
-use Rattle.history_text.proofs.Spreading.{one_word_more, added}
+use Rattle.call_words.specs.Spacing.{spread}
+use Rattle.call_words.specs.Ranges.{IsId}
+use Rattle.call_words.proofs.Spreading.{added}
+use Rattle.history_text.proofs.Spreading.{one_word_more}
 use Rattle.history_text.proofs.replies.push_more_ids.Goals as goal
 
 pub loop-id-preserved : goal.loop-id-preserved

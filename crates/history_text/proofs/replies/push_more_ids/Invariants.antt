@@ -1,6 +1,6 @@
 use Rattle.std.proofs.Common.{◌≡◌, ◌++◌, take, string_bytes, map}
 use Rattle.az_base.specs.Texts.{id_text}
-use Rattle.history_text.specs.Spacing.{spread}
+use Rattle.call_words.specs.Spacing.{spread}
 use Rattle.history_text.specs.Ranges.{AreIds}
 use Rattle.history_text.proofs.replies.push_more_ids.Given as goal
 

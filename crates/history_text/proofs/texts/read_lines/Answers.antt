@@ -1,7 +1,7 @@
 use Rattle.std.proofs.Common.{◌≡◌, ◌+◌, length, Some, sym, ap, ◌∙◌, arith}
 use Rattle.std.proofs.lemmas.Bool.{eqb-true, eqb-false}
 use Rattle.az_words.specs.Parts.{cut_at}
-use Rattle.history_text.specs.Ranges.{IsNumber}
+use Rattle.call_words.specs.Ranges.{IsNumber}
 use Rattle.history_text.proofs.Standing.{cut_is, wrong_line, wrong_end, wrong_after, whole_text, more_text, left_shorter, empty}
 use Rattle.history_text.proofs.texts.read_lines.Goals as goal
 

@@ -1,6 +1,6 @@
 use Rattle.std.proofs.Common.{string_bytes, ap, subst, ◌∙◌, ◌++◌, arith}
 use Rattle.std.proofs.lemmas.List.Elements.{All-more}
-use Rattle.history_text.specs.Spacing.{spaced}
+use Rattle.call_words.specs.Spacing.{spaced}
 use Rattle.history_text.specs.Words.{entry_words}
 use Rattle.history_text.specs.Ranges.{IsEntry}
 use Rattle.history_text.proofs.Written.{entry_more}

@@ -1,18 +1,18 @@
-//! Calls as words.
+//! Writers of calls with their arguments, each word behind a space.
 ghost use Rattle.std.specs.Prelude.{◌≡◌, All, OnOk, string_bytes};
 ghost use Rattle.std.specs.List.{flat_map};
 ghost use Rattle.az_base.specs.Texts.{mode_text};
-ghost use Rattle.history_text.specs.Spacing.{Adds, spread};
-ghost use Rattle.history_text.specs.Words.{letter_text, layout_words, action_words, actions_words, loc_words, call_words};
-ghost use Rattle.history_text.specs.Ranges.{IsLayout, IsAction, IsLoc, IsCall};
+ghost use Rattle.call_words.specs.Spacing.{Adds, spread};
+ghost use Rattle.call_words.specs.Words.{letter_text, layout_words, action_words, actions_words, loc_words, words_of_call, act_words};
+ghost use Rattle.call_words.specs.Ranges.{IsLayout, IsAction, IsLoc, IsCall};
 
-use crate::pieces::{
+use crate::push_pieces::{
     push_id, push_key, push_number, push_place, push_register, push_root, push_weak_root, push_word,
 };
 use az_base::{Action, Class, Mode};
 use block_layouts::{Layout, Shape};
 use std::alloc::AllocError;
-use zone_model::{Call, Loc};
+use zone_model::{Act, Call, Loc};
 
 fn letter(class: Class) -> &'static str
     ensures { result.now ≡ letter_text class }
@@ -107,9 +107,9 @@ fn mode_word(mode: Mode) -> &'static str
 }
 
 /// Adds a call with its arguments, each word behind a space.
-#[tactic(auto, unfolding(crate::specs::Words::call_words))]
+#[tactic(auto, unfolding(crate::specs::Words::words_of_call))]
 pub fn push_call(out: &mut String, call: &Call) -> Result<(), AllocError>
-    ensures adds { Adds (string_bytes out.old) (string_bytes out.new) result (spread (call_words call.now)) }
+    ensures adds { Adds (string_bytes out.old) (string_bytes out.new) result (spread (words_of_call call.now)) }
     ensures range { OnOk result (IsCall call.now) }
 {
     match call {
@@ -214,5 +214,19 @@ pub fn push_call(out: &mut String, call: &Call) -> Result<(), AllocError>
         Call::Finalise => push_word(out, "finalise"),
         Call::Reclaim => push_word(out, "reclaim"),
         Call::Leave => push_word(out, "leave"),
+    }
+}
+
+/// Adds what a line of a script asks for, each word behind a space. O(bytes added).
+#[tactic(auto, unfolding(crate::specs::Words::act_words))]
+pub fn push_act(out: &mut String, act: &Act) -> Result<(), AllocError>
+    ensures { Adds (string_bytes out.old) (string_bytes out.new) result (spread (act_words act.now)) }
+{
+    match act {
+        Act::Call(call) => push_call(out, call),
+        Act::Collect(mode) => {
+            push_word(out, "collect")?;
+            push_word(out, mode_word(*mode))
+        }
     }
 }

@@ -1,4 +1,4 @@
--- Printed numbers are numerals, and all that is printed is plain words
+-- Written numbers are numerals, and each word with a number is plain
 use Rattle.std.proofs.Common.{◌≡◌, ℕ, ◌<◌, ◌≤◌, ◌^◌, suc, true, false, not, leb, ltb, List, [], ◌∷◌, ◌++◌, length, None, refl, sym, ap, ◌∙◌, arith, rules, append_assoc}
 use Rattle.std.specs.List.{flat_map, list_all, prefix_len}
 use Rattle.std.specs.Char.{is_ascii_digit}
@@ -19,9 +19,11 @@ use Rattle.az_base.specs.Texts.{reg_text, root_text, weak_text, key_text, id_tex
 use Rattle.az_words.specs.Grammar.{IsNumeral, IsNumberIn}
 use Rattle.block_layouts.specs.declared.layout.Shape.TheVariants as shape
 use Rattle.block_layouts.specs.Letters.{is_other, first_other, classes_of}
-use Rattle.call_words.specs.Grammar.{IsLettered, IsId, IsObject}
-use Rattle.heap_script.specs.Printed.{letter_text}
-use Rattle.heap_script.proofs.PlainWords.{is_visible, IsPlain, plain_with}
+use Rattle.call_words.specs.Grammar.{IsLettered, SaysId, IsObject}
+use Rattle.call_words.specs.Spacing.{is_visible, IsPlain}
+use Rattle.call_words.specs.Words.{letter_text}
+use Rattle.call_words.specs.Ranges.{IsId}
+use Rattle.call_words.proofs.PlainWords.{plain_with}
 
 digits_told : IsDigitsTest (λ ds. list_all is_ascii_digit ds ≡ true)
 digits_told = record {
@@ -85,12 +87,12 @@ pub key_in : (k : ℕ) → k ≤ 255 → IsLettered 107 255 (key_text k) k
 unfolding key_text
 key_in k h = lettered_in 107 255 k h (omega arith)
 
-id_is : (id : BlockId) → id_text id ≡ decimal id.thread ++ 46 ∷ decimal id.serial
+pub id_spelled : (id : BlockId) → id_text id ≡ decimal id.thread ++ 46 ∷ decimal id.serial
 unfolding id_text
-id_is id = first_of (search rules, simp append_assoc, grind (arith, common_steps))
+id_spelled id = first_of (search rules, simp append_assoc, grind (arith, common_steps))
 
-pub id_in : (id : BlockId) → 1 ≤ id.thread → id.thread ≤ MOST_THREADS → id.serial ≤ 4294967295 → IsId (id_text id) id
-id_in id low high serial = (decimal id.thread, decimal id.serial, id_is id, decimal_in 1 MOST_THREADS id.thread low high (omega arith), decimal_in 0 4294967295 id.serial (omega arith) serial (omega arith))
+pub id_in : (id : BlockId) → IsId id → SaysId (id_text id) id
+id_in id h = (decimal id.thread, decimal id.serial, id_spelled id, decimal_in 1 MOST_THREADS id.thread h.0.0 h.0.1 (omega arith), decimal_in 0 4294967295 id.serial (omega arith) h.1 (omega arith))
 
 pub reg_plain : (r : ℕ) → r ≤ 15 → IsPlain (reg_text r)
 unfolding reg_text
@@ -114,8 +116,8 @@ plain_both a b h g = record {
   visible = list_all-append is_visible a b ∙ and_from (list_all is_visible a) (list_all is_visible b) h.visible g.visible;
 }
 
-pub id_plain : (id : BlockId) → id.thread ≤ MOST_THREADS → id.serial ≤ 4294967295 → IsPlain (id_text id)
-id_plain id thread serial = rw (id_is id) (plain_both (decimal id.thread) (46 ∷ decimal id.serial) (decimal_plain id.thread (omega arith)) (plain_with 46 (decimal id.serial) refl (decimal_plain id.serial (omega arith))))
+pub id_plain : (id : BlockId) → IsId id → IsPlain (id_text id)
+id_plain id h = rw (id_spelled id) (plain_both (decimal id.thread) (46 ∷ decimal id.serial) (decimal_plain id.thread (omega (arith, h.0.1))) (plain_with 46 (decimal id.serial) refl (decimal_plain id.serial (omega (arith, h.1)))))
 
 -- the letters of an object
 

@@ -1,9 +1,9 @@
-//! Single words, each behind a space.
+//! Writers of single words, one for each kind of word. Each adds the word behind a space.
 ghost use Rattle.std.specs.Prelude.{◌≡◌, [], ◌∷◌, string_bytes};
 ghost use Rattle.std.specs.Fmt.{decimal};
 ghost use Rattle.az_base.specs.Texts.{reg_text, root_text, weak_text, key_text, id_text};
-ghost use Rattle.history_text.specs.Spacing.{Adds, spread};
-ghost use Rattle.history_text.specs.Ranges.{IsReg, IsSmall, IsPlace, IsNumber, IsThread, IsId};
+ghost use Rattle.call_words.specs.Spacing.{Adds, spread};
+ghost use Rattle.call_words.specs.Ranges.{IsReg, IsSmall, IsPlace, IsNumber, IsThread, IsId};
 
 use az_base::{BlockId, Key, Reg, RootNo, ThreadNo, WeakNo};
 use itoa::Buffer;
@@ -24,6 +24,13 @@ pub fn push_thread(out: &mut String, thread: ThreadNo) -> Result<(), AllocError>
     ensures range { IsThread thread }
 {
     push_decimal(out, u64::from(thread.get()))
+}
+
+/// Ends a line.
+pub fn push_feed(out: &mut String) -> Result<(), AllocError>
+    ensures { Adds (string_bytes out.old) (string_bytes out.new) result (10 ∷ []) }
+{
+    out.push_str("\n")
 }
 
 /// Adds a fixed word.

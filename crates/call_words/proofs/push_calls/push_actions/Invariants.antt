@@ -1,8 +1,8 @@
 use Rattle.std.proofs.Common.{◌≡◌, ◌++◌, take, string_bytes, All}
-use Rattle.history_text.specs.Spacing.{spread}
-use Rattle.history_text.specs.Words.{actions_words}
-use Rattle.history_text.specs.Ranges.{IsAction}
-use Rattle.history_text.proofs.calls.push_actions.Given as goal
+use Rattle.call_words.specs.Spacing.{spread}
+use Rattle.call_words.specs.Words.{actions_words}
+use Rattle.call_words.specs.Ranges.{IsAction}
+use Rattle.call_words.proofs.push_calls.push_actions.Given as goal
 
 abbrev pub invariant-loop-action : goal.invariant-loop-action
 invariant-loop-action l = record {

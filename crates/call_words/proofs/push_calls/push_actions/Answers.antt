@@ -1,11 +1,11 @@
 use Rattle.std.proofs.Common.{take, get_or, arith}
 use Rattle.std.proofs.lemmas.List.Elements.{All-more}
 use Rattle.az_base.specs.declared.action.Action.TheVariants as action
-use Rattle.history_text.specs.Spacing.{spread}
-use Rattle.history_text.specs.Words.{action_words, actions_words}
-use Rattle.history_text.specs.Ranges.{IsAction}
-use Rattle.history_text.proofs.Spreading.{words_more, added}
-use Rattle.history_text.proofs.calls.push_actions.Goals as goal
+use Rattle.call_words.specs.Spacing.{spread}
+use Rattle.call_words.specs.Words.{action_words, actions_words}
+use Rattle.call_words.specs.Ranges.{IsAction}
+use Rattle.call_words.proofs.Spreading.{words_more, added}
+use Rattle.call_words.proofs.push_calls.push_actions.Goals as goal
 
 pub loop-action-preserved : goal.loop-action-preserved
 loop-action-preserved c =
