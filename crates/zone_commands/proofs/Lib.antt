@@ -1,3 +1,4 @@
 pub mod Answering
 pub mod CommandWords
 pub mod OneText
+pub mod Spelled

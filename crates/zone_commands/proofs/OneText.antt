@@ -84,5 +84,5 @@ one_text reads playable one_way bytes one other a b =
     let same : b.script ≡ a.script = script_same b.script a.script (sym ((reads bytes b.script).1 b.parsed) ∙ (reads bytes a.script).1 a.parsed) in
     let ordered = subst (λ s. IsPlayOf s.options (requests_of s) b.history b.stats) same b.ordered in
     let is = one_way a.script.options (requests_of a.script) a.history b.history a.stats b.stats (proper a.script (playable bytes a.script a.parsed)) a.ordered ordered in
-    a.spelled ∙ same_text a.script.options a.history b.history a.stats is.0 ∙ ap (text_of a.script.options b.history) is.1
-    ∙ ap (λ s. text_of s.options b.history b.stats) (sym same) ∙ sym b.spelled
+    a.fixed.text ∙ same_text a.script.options a.history b.history a.stats is.0 ∙ ap (text_of a.script.options b.history) is.1
+    ∙ ap (λ s. text_of s.options b.history b.stats) (sym same) ∙ sym b.fixed.text

@@ -18,14 +18,14 @@ use Rattle.zone_commands.specs.declared.status.Stop.TheVariants as stops
 use Rattle.play_core.specs.Playing.{requests_of}
 use Rattle.play_order.specs.Play.{IsPlayOf}
 use Rattle.zone_history.specs.Histories.{IsHistoryOf}
-use Rattle.history_text.specs.Texts.{text_of}
+use Rattle.history_text.specs.Texts.{IsText}
 
 -- the source gave these bytes, and none is left
 pub record GaveAll (old new : Option (List ℕ)) (bytes : List ℕ) : Type 0 where
   pub consumed : Consumes old new bytes
   pub end : IsAtEnd new
 
--- the bytes are a script, and the text is that of a history of it, in the order of a play
+-- the bytes are a script, and the text is that of a history of it, in the order of a play: one of the texts that are read
 pub record IsPlayed (bytes text : List ℕ) : Type 0 where
   pub script : Script
   pub history : List Entry
@@ -33,7 +33,7 @@ pub record IsPlayed (bytes text : List ℕ) : Type 0 where
   pub parsed : IsScript bytes script
   pub played : IsHistoryOf script.options (requests_of script) history stats
   pub ordered : IsPlayOf script.options (requests_of script) history stats
-  pub spelled : text ≡ text_of script.options history stats
+  pub fixed : IsText text script.options history stats
 
 -- all was read, at most so many bytes, and the text of a history of the script was written
 pub record Played (limit : ℕ) (old new : Option (List ℕ)) (grew : List ℕ → Type 0) : Type 0 where

@@ -1,7 +1,29 @@
 -- What is written, said of the bytes that were read
-use Rattle.std.specs.Prelude.{◌≡◌, ℕ, List}
+use Rattle.std.specs.Prelude.{◌≡◌, ℕ, List, All, Result}
+use Rattle.az_base.specs.declared.options.Options.{Options}
+use Rattle.zone_model.specs.declared.entry.Entry.{Entry}
+use Rattle.zone_model.specs.declared.entry.Stats.{Stats}
+use Rattle.call_words.specs.Ranges.{IsSpelled}
+use Rattle.heap_script.specs.declared.script.Script.{Script}
+use Rattle.heap_script.specs.Scripts.{AllSpelled}
+use Rattle.zone_history.specs.Histories.{IsHistoryOf}
+use Rattle.history_text.specs.declared.texts.HistoryText.{HistoryText}
+use Rattle.history_text.specs.declared.texts.TextErr.{TextErr}
+use Rattle.history_text.specs.Answers.{ReadsText}
+use Rattle.history_text.specs.Laws.{IsReadAs}
+use Rattle.play_core.specs.Playing.{requests_of}
 use Rattle.zone_commands.specs.Answers.{IsPlayed}
 
 -- bytes have one text: whoever plays them writes the same
 abbrev pub BytesHaveOneText : Type 0
 BytesHaveOneText = (bytes one other : List ℕ) → IsPlayed bytes one → IsPlayed bytes other → one ≡ other
+
+-- the calls in a history of a script are such as the grammar has
+abbrev pub HistoriesAreSpelled : Type 0
+HistoriesAreSpelled =
+    (script : Script) (history : List Entry) (stats : Stats) → AllSpelled script.lines → IsHistoryOf script.options (requests_of script) history stats → All (λ e. IsSpelled e.call) history
+
+-- whoever reads what was written of a script reads the history that was played, but for the room of the lists in its replies; memory may run out
+abbrev pub TextsAreReadAsPlayed : Type 0
+TextsAreReadAsPlayed =
+    (bytes text : List ℕ) (answer : Result HistoryText TextErr) (p : IsPlayed bytes text) → ReadsText text answer → IsReadAs p.script.options p.history p.stats answer

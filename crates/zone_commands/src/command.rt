@@ -1,9 +1,11 @@
 //! The commands.
-ghost use Rattle.std.specs.Prelude.{◌≡◌, ◌≢◌, ◌+◌, [], OnOk, Err};
+ghost use Rattle.std.specs.Prelude.{◌≡◌, ◌≢◌, ◌+◌, [], OnOk, IfOk, Err, string_bytes};
 ghost use Rattle.az_outside.specs.Causes.{Rose};
 ghost use Rattle.az_outside.specs.Bytes.{Takes};
-ghost use Rattle.zone_commands.specs.Answers.{Played, PlayedPart, Refuses, IfRefused, Ended};
+ghost use Rattle.heap_script.specs.Scripts.{IsRefused};
+ghost use Rattle.zone_commands.specs.Answers.{IsPlayed, Played, PlayedPart, Refuses, IfRefused, Ended};
 
+use crate::laws::histories_are_spelled;
 use crate::saying::{refusal, say};
 use crate::status::{Status, Stop};
 use az_outside::{Sink, Source, read_all, write_all};
@@ -14,6 +16,21 @@ use std::alloc::Global;
 
 /// The most bytes of a script.
 pub const LIMIT: usize = 4_194_304;
+
+/// The text of the history of the script that the bytes are.
+fn played_text(alloc: Global, bytes: &[u8]) -> Result<String, Stop>
+    ensures ok { IfOk result (λ text. IsPlayed bytes.now (string_bytes text)) }
+    ensures refused { IfRefused result (λ cause line. IsRefused bytes.now (record { cause = cause; line = line })) }
+    ensures read { result ≢ Err Stop.ReadFault }
+    ensures too_long { result ≢ Err Stop.TooLong }
+    ensures write { result ≢ Err Stop.WriteFault }
+{
+    histories_are_spelled();
+    let script = parse(alloc, bytes)?;
+    let played = play(alloc, &script)?;
+    let text = write_text(alloc, &script.options, &played.entries, &played.stats)?;
+    Ok(text)
+}
 
 /// Plays the script that the source gives, and writes the text of its history by one `write_all`.
 fn play_script<S: Source, O: Sink>(alloc: Global, source: &mut S, out: &mut O) -> Result<(), Stop>
@@ -27,9 +44,7 @@ fn play_script<S: Source, O: Sink>(alloc: Global, source: &mut S, out: &mut O) -
     ensures memory { result ≡ Err Stop.NoMemory → O.grew out.old out.new [] }
 {
     let bytes = read_all(alloc, source, LIMIT)?;
-    let script = parse(alloc, &bytes)?;
-    let played = play(alloc, &script)?;
-    let text = write_text(alloc, &script.options, &played.entries, &played.stats)?;
+    let text = played_text(alloc, &bytes)?;
     match write_all(out, text.as_bytes()) {
         Ok(()) => Ok(()),
         Err(_) => Err(Stop::WriteFault),

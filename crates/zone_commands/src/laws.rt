@@ -1,7 +1,8 @@
-//! A law over what is written.
-ghost use Rattle.zone_commands.specs.Laws.{BytesHaveOneText};
+//! Laws over what is written.
+ghost use Rattle.zone_commands.specs.Laws.{BytesHaveOneText, HistoriesAreSpelled, TextsAreReadAsPlayed};
 
 use heap_script::{scripts_are_read, scripts_can_be_played};
+use history_text::texts_are_read_back;
 use play_order::requests_are_played_in_one_way;
 
 /// The bytes of a script determine the text of its history: which calls are local, where their entries stand, and what
@@ -12,4 +13,17 @@ pub fn bytes_have_one_text()
     scripts_are_read();
     scripts_can_be_played();
     requests_are_played_in_one_way();
+}
+
+/// Each call in a history of a script is one that the grammar of histories has.
+pub fn histories_are_spelled()
+    ensures { HistoriesAreSpelled }
+{}
+
+/// The text that is written for a script is read by `read_text` as the history that was played: its options, its entries
+/// but for the room of the lists in their replies, and its statistics, unless memory runs out.
+pub fn texts_are_read_as_played()
+    ensures { TextsAreReadAsPlayed }
+{
+    texts_are_read_back();
 }

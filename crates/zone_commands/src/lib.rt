@@ -13,7 +13,7 @@ mod status;
 mod top;
 mod words;
 
-pub use laws::bytes_have_one_text;
+pub use laws::{bytes_have_one_text, histories_are_spelled, texts_are_read_as_played};
 pub use saying::say;
 pub use status::Status;
 pub use top::autozone;

@@ -17,7 +17,8 @@ use std::alloc::Global;
 /// is the record `Ended`.
 ///
 /// Where it answers Done, the bytes by which `out` grew are the text of a legal history, whose entries are those of
-/// each script thread's calls, once and in their order, and then of its leave. The entries of all threads stand in the
+/// each script thread's calls, once and in their order, and then of its leave; `read_text` of `history_text` reads them as
+/// this history (`texts_are_read_as_played`). The entries of all threads stand in the
 /// order of a play (`IsPlayOf`), so that the bytes of the script alone determine this text (`bytes_have_one_text`).
 pub fn autozone<S: Source, O: Sink, E: Sink>(
     alloc: Global,
