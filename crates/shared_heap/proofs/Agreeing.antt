@@ -11,7 +11,7 @@ use Rattle.zone_model.specs.declared.call.Call.TheVariants as call
 use Rattle.zone_model.specs.declared.entry.Entry.{Entry}
 use Rattle.zone_model.specs.declared.entry.Reply.{Reply}
 use Rattle.zone_model.specs.declared.entry.Reply.TheVariants as reply
-use Rattle.zone_model.specs.Escape.{Need, with_escaped}
+use Rattle.zone_model.specs.Escape.{Need}
 use Rattle.zone_model.specs.Misuses.{misuse_of}
 use Rattle.zone_model.specs.Part.{part_of}
 use Rattle.zone_model.specs.State.{State, Block, is_escaped, with_register}

@@ -1,11 +1,12 @@
 -- What a heap stands for is what is shared
-use Rattle.std.proofs.Common.{◌≡◌, ℕ, cond, Option, Some, None, is_some, refl, sym, ap, ◌∙◌}
+use Rattle.std.proofs.Common.{◌≡◌, ℕ, cond, Option, Some, None, is_some, refl, sym, ap, subst, ◌∙◌}
 use Rattle.std.specs.FinMap.{get}
-use Rattle.zone_model.specs.Collection.{HasCycle}
 use Rattle.zone_model.specs.State.{State, Block, Cycle}
 use Rattle.zone_model.specs.SameShared.{escaped_only, SeesMore, SameShared}
+use Rattle.shared_heap.specs.Collector.{Collecting}
 use Rattle.shared_heap.specs.Shared.{Shared}
-use Rattle.shared_heap.specs.Stands.{Stands, escaped_view}
+use Rattle.shared_heap.specs.Stands.{Stands, StandsCycle, SameCycle, escaped_view}
+use Rattle.shared_heap.proofs.Collecting.{seen_more}
 
 view_only : (r : ℕ) (o : Option Block) → escaped_view r o ≡ escaped_view r (escaped_only o)
 view_only r None = refl
@@ -15,10 +16,19 @@ view_only r (Some b) = by b.since refl
     by None e = rw e refl
     by (Some n) e = rw e refl
 
-no_cycle : (c d : Option Cycle) → SeesMore c d → c ≡ None → d ≡ None
-no_cycle None None h e = refl
-no_cycle None (Some d) h e = absurd h
-no_cycle (Some c) d h e = cc (e)
+sees_more : (g : Option Collecting) (c d : Option Cycle) → SeesMore c d → SameCycle g c → SameCycle g d
+sees_more None None None h s = tt
+sees_more None None (Some d) h s = absurd h
+sees_more None (Some c) d h s = absurd s
+sees_more (Some g) None d h s = absurd s
+sees_more (Some g) (Some c) None h s = absurd h
+sees_more (Some g) (Some c) (Some d) h s = subst (StandsCycle g) (sym h.1) record {
+  owner = s.owner;
+  mode = s.mode;
+  start = s.start;
+  condemned = s.condemned;
+  dark = λ none b i w. seen_more c h.0 b (s.dark none b i w);
+}
 
 -- so local calls, and publications of their entries, leave the heap as it is
 pub stands_same : (h : Shared) (z a : State) → Stands h z → SameShared z a → Stands h a
@@ -31,8 +41,5 @@ stands_same h z a s same = record {
   counts = same.counts ∙ s.counts;
   assocs = same.assocs ∙ s.assocs;
   weak = same.weak ∙ s.weak;
-  cycle = no_cycle z.cycle a.cycle same.cycle s.cycle;
+  cycle = sees_more h.gc.cycle z.cycle a.cycle same.cycle s.cycle;
 }
-
-pub none_open : (h : Shared) (z : State) (t : ℕ) (c : Cycle) → Stands h z → HasCycle z t c → ⊥
-none_open h z t c s has = let none : None ≡ Some c = sym s.cycle ∙ has.0 in cc (none)

@@ -15,9 +15,11 @@ use Rattle.zone_model.specs.State.{State, with_assoc, with_register}
 use Rattle.zone_model.specs.Step.{seen_now}
 use Rattle.zone_model.proofs.Steps.{step_plain}
 use Rattle.shared_heap.specs.Assocs.{associated}
-use Rattle.shared_heap.specs.Shared.{Shared, used_by}
+use Rattle.shared_heap.specs.Cycles.{Livens, of_option}
+use Rattle.shared_heap.specs.Shared.{Shared, used_by, with_gc}
 use Rattle.shared_heap.specs.Stands.{Stands, EscapedClosed}
 use Rattle.shared_heap.specs.Steps.{Runs, Stepped}
+use Rattle.shared_heap.proofs.Collecting.{live_stands, register_anchored}
 use Rattle.shared_heap.proofs.Standing.{register_stands, seen_stands}
 use Rattle.shared_heap.proofs.Stepping.{misused, none_escape}
 use Rattle.shared_heap.proofs.Sums.{not_full}
@@ -47,15 +49,15 @@ module _ (h : Shared) (z : State) (t reg from : ℕ) (key : Key) (a v : Option B
   pub set_null : a ≡ None → Stepped h z t (call.SetAssoc reg key from) (reply.Misuse misuse.NullBlock)
   set_null none = misused h z t (call.SetAssoc reg key from) misuse.NullBlock runs set_needs (rw (holds, none) refl)
 
-  pub set_step : (new : Shared) (object : BlockId) (before : Option BlockId) → used_by h.blocks ≤ h.options.heap_quanta → a ≡ Some object → before ≡ get h.assocs (object, key.0) → new ≡ associated h (Some object) key.0 v
+  pub set_step : (new : Shared) (object : BlockId) (before : Option BlockId) → used_by h.blocks ≤ h.options.heap_quanta → a ≡ Some object → before ≡ get h.assocs (object, key.0) → new ≡ with_gc (associated h (Some object) key.0 v) new.gc → Livens h.gc new.gc (of_option v) (of_option a)
       → Stepped new z t (call.SetAssoc reg key from) (reply.Block before)
-  set_step new object before fits some was is =
+  set_step new object before fits some was is lives =
       let mid = with_assoc z object key.0 v in
       let at : z.registers t reg ≡ Some object = holds ∙ some in
       let reads : before ≡ assoc_of z (z.registers t reg) key.0 = was ∙ sym (ap (λ o. assoc_of z o key.0) at ∙ assoc_is h z object key.0 runs.stands) in
       let writes : mid ≡ option_map_or (λ b. with_assoc z b key.0 (z.registers t from)) (z.registers t reg) z = rw (at, has_value) refl in
       let right : misuse_of z t (call.SetAssoc reg key from) (λ _. false) ≡ None = rw (at, not_full h z runs.stands fits) refl in
-      (seen_now mid, step_plain z _ (seen_now mid) runs.running set_needs right (mid, (reads, writes), refl), seen_stands new mid (rw is (assoc_stands h z object key.0 v runs.stands)))
+      (seen_now mid, step_plain z _ (seen_now mid) runs.running set_needs right (mid, (reads, writes), refl), rw is (live_stands (associated h (Some object) key.0 v) mid new.gc (of_option v) (of_option a) lives (register_anchored mid t from v has_value) (assoc_stands h z object key.0 v runs.stands)))
 
 module _ (h : Shared) (z : State) (t to reg : ℕ) (key : Key) (a : Option BlockId) (runs : Runs h z t) (holds : z.registers t reg ≡ a) where
   get_misuse : misuse_of z t (call.GetAssoc to reg key) (λ _. false) ≡ first_of ((is_none a, misuse.NullBlock) ∷ [])

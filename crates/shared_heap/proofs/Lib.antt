@@ -3,7 +3,9 @@ pub mod Filtered
 pub mod Tables
 pub mod Picks
 pub mod Sums
+pub mod Collecting
 pub mod Standing
+pub mod Escaping
 pub mod Stepping
 pub mod Holding
 pub mod Results

@@ -1,10 +1,8 @@
 -- What a sound state is to the heap's calls, and what of it lasts while blocks escape
-use Rattle.std.proofs.Common.{◌≡◌, ℕ, inl, inr, Option, Some, None, IsTrue, is_some, refl, ap, arith}
+use Rattle.std.proofs.Common.{◌≡◌, ℕ, inl, inr, Option, Some, None, is_some, refl, ap, arith}
 use Rattle.std.specs.FinMap.{get}
-use Rattle.az_base.specs.declared.block_id.BlockId.{BlockId}
 use Rattle.az_base.specs.Ids.{id_of}
-use Rattle.zone_model.specs.State.{State, Block, is_escaped}
-use Rattle.zone_model.specs.Reach.{Edge}
+use Rattle.zone_model.specs.State.{State, Block}
 use Rattle.zone_model.specs.Sound.{Sound}
 use Rattle.zone_model.proofs.Blocks.{not_both}
 use Rattle.shared_heap.specs.Stands.{EscapedClosed}

@@ -18,12 +18,13 @@ use Rattle.zone_model.specs.State.{State, Block, moment, with_edit, with_root, w
 use Rattle.zone_model.specs.Escape.{with_escaped}
 use Rattle.zone_model.specs.Effect.{new_block, with_new}
 use Rattle.zone_model.specs.Quanta.{is_born_escaped}
-use Rattle.zone_model.specs.Step.{seen_now, with_moment}
+use Rattle.zone_model.specs.Step.{seen_now}
 use Rattle.shared_heap.specs.Holds.{Holds}
 use Rattle.shared_heap.specs.Stored.{HeapBlock}
 use Rattle.shared_heap.specs.Shared.{Shared, new_heap, rooted, written, newly, with_birth, admitted, holding_more}
 use Rattle.shared_heap.specs.Stands.{Stands, kept_of, escaped_view}
 use Rattle.shared_heap.specs.Steps.{IsUnescaped}
+use Rattle.shared_heap.proofs.Collecting.{seen_same}
 use Rattle.az_base.proofs.Ids.{same_turned}
 
 nulls : (n g : ℕ) → get_or (replicate n (let o : Option BlockId = None in o)) g None ≡ None
@@ -39,15 +40,15 @@ opening_stands o = record {
   counts = refl;
   assocs = refl;
   weak = refl;
-  cycle = refl;
+  cycle = tt;
 }
 
--- who holds what, and what a cycle has seen, are no part of it
+-- who holds what, and what a cycle has seen more, are no part of it
 pub holds_stand : (h : Shared) (z : State) (m : FinMap id_cmp Holds) → Stands h z → Stands (record h { holds = m }) z
 holds_stand h z m s = record { options = s.options; blocks = s.blocks; roots = s.roots; counts = s.counts; assocs = s.assocs; weak = s.weak; cycle = s.cycle }
 
 pub seen_stands : (h : Shared) (z : State) → Stands h z → Stands h (seen_now z)
-seen_stands h z s = record { options = s.options; blocks = s.blocks; roots = s.roots; counts = s.counts; assocs = s.assocs; weak = s.weak; cycle = ap (option_map (with_moment (moment z))) s.cycle }
+seen_stands h z s = record { options = s.options; blocks = s.blocks; roots = s.roots; counts = s.counts; assocs = s.assocs; weak = s.weak; cycle = seen_same h.gc.cycle z.cycle (moment z) s.cycle }
 
 pub register_stands : (h : Shared) (z : State) (t r : ℕ) (v : Option BlockId) → Stands h z → Stands h (with_register z t r v)
 register_stands h z t r v s = record { options = s.options; blocks = s.blocks; roots = s.roots; counts = s.counts; assocs = s.assocs; weak = s.weak; cycle = s.cycle }

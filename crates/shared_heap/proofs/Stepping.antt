@@ -30,11 +30,13 @@ use Rattle.zone_model.specs.Misuses.{Named, words_named, null_block, no_word, wr
 use Rattle.zone_model.specs.Step.{seen_now}
 use Rattle.zone_model.proofs.Steps.{step_plain, step_misuse}
 use Rattle.shared_heap.specs.Stored.{HeapBlock}
-use Rattle.shared_heap.specs.Shared.{Shared, used_by, written, rooted, stats_in}
+use Rattle.shared_heap.specs.Cycles.{AfterBarrier, Livens, of_option}
+use Rattle.shared_heap.specs.Shared.{Shared, used_by, written, rooted, stats_in, with_gc}
 use Rattle.shared_heap.specs.Stands.{Stands, EscapedClosed, kept_of, escaped_view}
 use Rattle.shared_heap.specs.Steps.{Runs, Stepped, NeedsWord, first_three, after_write}
 use Rattle.shared_heap.specs.Words.{word_misuse, class_misuse, class_in, is_past, is_other, reply_or}
 use Rattle.shared_heap.specs.Words as own
+use Rattle.shared_heap.proofs.Collecting.{live_stands, register_anchored}
 use Rattle.shared_heap.proofs.Sums.{not_full, used_stands, number_stands}
 use Rattle.shared_heap.proofs.Standing.{word_stands, root_stands, seen_stands, register_stands}
 
@@ -196,29 +198,36 @@ module _ (h new : Shared) (z : State) (t reg from at : ℕ) (a v : Option BlockI
   pub store_needs : (id : BlockId) → Need z t (call.Store reg at from) id → ⊥
   store_needs id n = none_escape h z v runs.stands sound there id (subst (λ v. EscOf z v id) has_value n.1)
 
-  pub store_step : word_misuse h a at class.Strong ≡ None → new ≡ written h a at (reference v) → Stepped new z t (call.Store reg at from) reply.Done
-  store_step right is =
+  pub store_step : word_misuse h a at class.Strong ≡ None → new ≡ with_gc (written h a at (reference v)) new.gc → Livens h.gc new.gc (of_option v) (of_option a) → Stepped new z t (call.Store reg at from) reply.Done
+  store_step right is lives =
       let mid = with_word z (z.registers t reg) at (reference (z.registers t from)) in
-      let stands : Stands new mid = rw has_value (written_stands h new z t reg at a runs given holds (reference v) is) in
-      (seen_now mid, step_plain z _ (seen_now mid) runs.running store_needs (store_misuse ∙ right) (mid, refl, refl), seen_stands new mid stands)
+      let stands : Stands (written h a at (reference v)) mid = rw has_value (written_stands h (written h a at (reference v)) z t reg at a runs given holds (reference v) refl) in (
+        seen_now mid,
+        step_plain z _ (seen_now mid) runs.running store_needs (store_misuse ∙ right) (mid, refl, refl),
+        rw is (live_stands (written h a at (reference v)) mid new.gc (of_option v) (of_option a) (subst (λ g. Livens g new.gc (of_option v) (of_option a)) (sym (written_gc a)) lives) (register_anchored mid t from v has_value) stands),
+      )
+    where
+      written_gc : (b : Option BlockId) → (written h b at (reference v)).gc ≡ h.gc
+      written_gc None = refl
+      written_gc (Some id) = refl
 
-  pub store_any : (r : Reply) → r ≡ reply_or (word_misuse h a at class.Strong) reply.Done → new ≡ after_write h a at (reference v) r → Stepped new z t (call.Store reg at from) r
-  store_any r says is = go (word_misuse h a at class.Strong) refl says
+  pub store_any : (r : Reply) → r ≡ reply_or (word_misuse h a at class.Strong) reply.Done → new ≡ with_gc (after_write h a at (reference v) r) new.gc → AfterBarrier h.gc new.gc r (of_option v) (of_option a) → Stepped new z t (call.Store reg at from) r
+  store_any r says is barrier = go (word_misuse h a at class.Strong) refl says
     where
       go : (m : Option Misuse) → word_misuse h a at class.Strong ≡ m → r ≡ reply_or m reply.Done → Stepped new z t (call.Store reg at from) r
-      go None e f = subst (λ r. Stepped new z t (call.Store reg at from) r) (sym f) (store_step e (is ∙ ap (after_write h a at (reference v)) f))
+      go None e f = subst (λ r. Stepped new z t (call.Store reg at from) r) (sym f) (store_step e (is ∙ ap (λ r. with_gc (after_write h a at (reference v) r) new.gc) f) (subst (λ r. AfterBarrier h.gc new.gc r (of_option v) (of_option a)) f barrier))
       go (Some m) e f =
-          let same : new ≡ h = is ∙ ap (after_write h a at (reference v)) f in
+          let same : new ≡ h = is ∙ ap (λ r. with_gc (after_write h a at (reference v) r) new.gc) f ∙ ap (with_gc h) (subst (λ r. AfterBarrier h.gc new.gc r (of_option v) (of_option a)) f barrier) in
           subst (λ r. Stepped new z t (call.Store reg at from) r) (sym f) (subst (λ k. Stepped k z t (call.Store reg at from) (reply.Misuse m)) (sym same) (misused h z t (call.Store reg at from) m runs store_needs (store_misuse ∙ e)))
 
 -- the roots
 pub set_root_step : (h new : Shared) (z : State) (t from g : ℕ) (v : Option BlockId) → Runs h z t → EscapedClosed z → IfSome v (λ b. IsSome (get h.blocks b)) → used_by h.blocks ≤ h.options.heap_quanta → length h.roots ≡ 256 → g < 256
-    → z.registers t from ≡ v → new ≡ rooted h g v → Stepped new z t (call.SetRoot (record { 0 = g }) from) reply.Done
-set_root_step h new z t from g v runs sound there fits all l has_value is =
+    → z.registers t from ≡ v → new ≡ with_gc (rooted h g v) new.gc → Livens h.gc new.gc (of_option v) [] → Stepped new z t (call.SetRoot (record { 0 = g }) from) reply.Done
+set_root_step h new z t from g v runs sound there fits all l has_value is lives =
     let mid = with_root z g (z.registers t from) in
-    let stands : Stands new mid = rw (is, has_value) (root_stands h z g v all l runs.stands) in
+    let stands : Stands (rooted h g v) mid = rw has_value (root_stands h z g v all l runs.stands) in
     let right : misuse_of z t (call.SetRoot (record { 0 = g }) from) (λ _. false) ≡ None = ap (λ full. first_of ((full, misuse.ZoneFull) ∷ [])) (not_full h z runs.stands fits) in
-    (seen_now mid, step_plain z _ (seen_now mid) runs.running (λ id n. none_escape h z v runs.stands sound there id (subst (λ v. EscOf z v id) has_value n)) right (mid, refl, refl), seen_stands new mid stands)
+    (seen_now mid, step_plain z _ (seen_now mid) runs.running (λ id n. none_escape h z v runs.stands sound there id (subst (λ v. EscOf z v id) has_value n)) right (mid, refl, refl), rw is (live_stands (rooted h g v) mid new.gc (of_option v) [] lives (register_anchored mid t from v has_value) stands))
 
 pub get_root_step : (h new : Shared) (z : State) (t to g : ℕ) (v : Option BlockId) → Runs h z t → z.roots g ≡ v → Stands new z → Stepped new z t (call.GetRoot to (record { 0 = g })) (reply.Block v)
 get_root_step h new z t to g v runs is s =

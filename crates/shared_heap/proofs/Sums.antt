@@ -1,21 +1,24 @@
 -- The heap's sums are those of each state for which it stands, and how a block more changes them
-use Rattle.std.proofs.Common.{◌≡◌, ℕ, ◌+◌, ◌≤◌, false, cond, Option, Some, None, refl, sym, ap, ◌∙◌, arith, is_some, nat_lt}
+use Rattle.std.proofs.Common.{◌≡◌, ℕ, ◌+◌, ◌≤◌, false, cond, List, [], ◌∷◌, Option, Some, None, refl, sym, ap, ◌∙◌, arith, is_some, nat_lt}
 use Rattle.std.proofs.lemmas.Bool.Decides.{nat_tests}
 use Rattle.std.specs.Option.{option_map_or}
 use Rattle.std.specs.FinMap.{FinMap, empty, get, insert}
+use Rattle.az_base.specs.declared.action.Action.{Action}
 use Rattle.az_base.specs.declared.block_id.BlockId.{BlockId}
+use Rattle.az_base.specs.declared.word.Word.{Word}
+use Rattle.block_layouts.specs.declared.layout.Layout.{Layout}
 use Rattle.az_base.specs.declared.options.Options.{Options}
 use Rattle.az_base.specs.Ids.{id_cmp, ids_total, exact_ids}
 use Rattle.block_layouts.specs.Layouts.{quanta, len_of}
 use Rattle.zone_model.specs.Maps.{total}
 use Rattle.zone_model.proofs.MapLaws.{total-insert, at_value}
-use Rattle.zone_model.specs.State.{State, Block, with_edit}
+use Rattle.zone_model.specs.State.{State, Block, is_nil, with_edit}
 use Rattle.zone_model.specs.Quanta.{used_quanta, quanta_needed}
 use Rattle.zone_model.specs.Stats.{stats_of}
 use Rattle.zone_model.specs.Misuses.{is_overfull}
 use Rattle.zone_model.proofs.Totals.{total_added}
 use Rattle.shared_heap.specs.Stored.{HeapBlock}
-use Rattle.shared_heap.specs.Shared.{Shared, used_by, number_of}
+use Rattle.shared_heap.specs.Shared.{Shared, used_by, number_of, unfinalised_by, newly, waits}
 use Rattle.shared_heap.specs.Stands.{Stands, kept_of}
 use Rattle.shared_heap.proofs.Picks.{total-picked, total-zero}
 
@@ -46,6 +49,14 @@ used_more m id k none = total_added ids_total exact_ids (λ id (k : HeapBlock). 
 
 pub number_more : (m : FinMap id_cmp HeapBlock) (id : BlockId) (k : HeapBlock) → get m id ≡ None → number_of (insert m id k) ≡ number_of m + 1
 number_more m id k none = total_added ids_total exact_ids (λ id (k : HeapBlock). 1) m id k none
+
+pub unfinalised_more : (m : FinMap id_cmp HeapBlock) (id : BlockId) (k : HeapBlock) → get m id ≡ None → unfinalised_by (insert m id k) ≡ unfinalised_by m + cond (waits k) 1 0
+unfinalised_more m id k none = total_added ids_total exact_ids (λ id (k : HeapBlock). cond (waits k) 1 0) m id k none
+
+-- a block that has just escaped waits for its finaliser where it has actions
+pub waits_once : (layout : Layout) (words : List Word) (actions : List Action) → cond {A = ℕ} (waits (newly layout words actions)) 1 0 ≡ cond {A = ℕ} (is_nil actions) 0 1
+waits_once layout words [] = refl
+waits_once layout words (a ∷ actions) = refl
 
 -- where nothing escapes, no quanta are needed
 pub none_needed : (z : State) → quanta_needed z (λ _. false) ≡ 0

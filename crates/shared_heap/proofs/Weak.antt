@@ -1,8 +1,9 @@
 -- The steps of the calls on weak locations
-use Rattle.std.proofs.Common.{◌≡◌, ℕ, ◌≤◌, Bool, true, false, [], ◌∷◌, Option, Some, None, IsSome, IfSome, refl, sym, ap, subst, ◌∙◌, inl, inr}
+use Rattle.std.proofs.Common.{◌≡◌, ℕ, ◌≤◌, ◌==◌, ◌&&◌, Bool, true, false, cond, List, [], ◌∷◌, Option, Some, None, IsSome, IfSome, refl, sym, ap, subst, ◌∙◌, inl, inr, eq-eqb}
 use Rattle.std.specs.Option.{option_map, option_map_or}
 use Rattle.std.specs.FinMap.{get}
 use Rattle.az_base.specs.declared.block_id.BlockId.{BlockId}
+use Rattle.az_base.specs.Ids.{among}
 use Rattle.az_base.specs.declared.misuse.Misuse.{Misuse}
 use Rattle.az_base.specs.declared.misuse.Misuse.TheVariants as misuse
 use Rattle.az_base.specs.declared.weak_loc.WeakLoc.{WeakLoc}
@@ -19,10 +20,12 @@ use Rattle.az_base.specs.WithValue.{with_value}
 use Rattle.zone_model.specs.State.{State, with_weak, with_register}
 use Rattle.zone_model.specs.Step.{seen_now}
 use Rattle.zone_model.proofs.Steps.{step_plain}
-use Rattle.shared_heap.specs.Shared.{Shared, used_by}
+use Rattle.shared_heap.specs.Cycles.{Livens, of_option}
+use Rattle.shared_heap.specs.Shared.{Shared, used_by, with_gc}
 use Rattle.shared_heap.specs.Stands.{Stands, EscapedClosed}
 use Rattle.shared_heap.specs.Steps.{Runs, Stepped}
-use Rattle.shared_heap.specs.Weak.{IsPlaced, loc_misuse, showing}
+use Rattle.shared_heap.specs.Weak.{IsPlaced, loc_misuse, showing, shown_in}
+use Rattle.shared_heap.proofs.Collecting.{condemned_same, live_stands, register_anchored}
 use Rattle.shared_heap.proofs.Standing.{seen_stands, register_stands}
 use Rattle.shared_heap.proofs.Stepping.{three, misused, none_escape}
 use Rattle.shared_heap.proofs.Sums.{not_full}
@@ -43,10 +46,10 @@ word_named z t a at l e = go (z.registers t a) refl e
 showing_stands : (h : Shared) (z : State) (l : WeakLoc) (v : Option BlockId) → Stands h z → Stands (showing h l v) (with_weak z l v)
 showing_stands h z l v s = record { options = s.options; blocks = s.blocks; roots = s.roots; counts = s.counts; assocs = s.assocs; weak = ap (λ m. with_value m l v) s.weak; cycle = s.cycle }
 
--- where no cycle is open, no block is condemned
-shown_whole : (z : State) (v : Option BlockId) → z.cycle ≡ None → v ≡ value_to_show z v
-shown_whole z None none = refl
-shown_whole z (Some b) none = rw none refl
+-- what a location comes to show
+shown_same : (h : Shared) (z : State) (v : Option BlockId) → Stands h z → shown_in h v ≡ value_to_show z v
+shown_same h z None s = refl
+shown_same h z (Some b) s = ap (λ (o : Option (List BlockId)). cond (option_map_or (λ r. among r b) o false) None (Some b)) (sym (condemned_same h.gc.cycle z.cycle s.cycle))
 
 -- a misuse stays the least where the zone is full
 earlier : (a b c full : Bool) (m : Misuse) → first_of ((a, misuse.NullBlock) ∷ (b, misuse.NoWord) ∷ (c, misuse.WrongClass) ∷ []) ≡ Some m
@@ -67,11 +70,14 @@ module _ (h : Shared) (z : State) (t : ℕ) (runs : Runs h z t) where
   pub read_misused : (to : ℕ) (named : Loc) (l : WeakLoc) (m : Misuse) → IsPlaced h l → weak_loc z t named ≡ Some l → loc_misuse h l ≡ Some m → Stepped h z t (call.ReadWeak to named) (reply.Misuse m)
   read_misused to named l m placed at wrong = misused h z t (call.ReadWeak to named) m runs (λ id n. n) (read_misuse to named l placed at ∙ wrong)
 
-  pub read_step : (new : Shared) (to : ℕ) (named : Loc) (l : WeakLoc) (v : Option BlockId) → IsPlaced h l → weak_loc z t named ≡ Some l → loc_misuse h l ≡ None → v ≡ get h.weak l → Stands new z → Stepped new z t (call.ReadWeak to named) (reply.Block v)
-  read_step new to named l v placed at right is s =
+  pub read_step : (new : Shared) (to : ℕ) (named : Loc) (l : WeakLoc) (v : Option BlockId) → IsPlaced h l → weak_loc z t named ≡ Some l → loc_misuse h l ≡ None → v ≡ get h.weak l → (k : Shared) → Stands k z → new ≡ with_gc k new.gc → Livens k.gc new.gc (of_option v) [] → Stepped new z t (call.ReadWeak to named) (reply.Block v)
+  read_step new to named l v placed at right is k s same lives =
       let mid = with_register z t to v in
       let reads : v ≡ get z.weak l = is ∙ sym (ap (λ m. get m l) runs.stands.weak) in
-      (seen_now mid, step_plain z _ (seen_now mid) runs.running (λ id n. n) (read_misuse to named l placed at ∙ right) (mid, (rw at reads, refl), refl), seen_stands new mid (register_stands new z t to v s))
+      (seen_now mid, step_plain z _ (seen_now mid) runs.running (λ id n. n) (read_misuse to named l placed at ∙ right) (mid, (rw at reads, refl), refl), rw same (live_stands k mid new.gc (of_option v) [] lives (register_anchored mid t to v own_register) (register_stands k z t to v s)))
+    where
+      own_register : (with_register z t to v).registers t to ≡ v
+      own_register = ap (λ b. cond b v (z.registers t to)) (ap (λ b. b && (to == to)) (eq-eqb t t refl) ∙ eq-eqb to to refl)
 
   module _ (from : ℕ) (named : Loc) (l : WeakLoc) (v : Option BlockId) (sound : EscapedClosed z) (placed : IsPlaced h l) (there : IfSome v (λ b. IsSome (get h.blocks b))) (at : weak_loc z t named ≡ Some l) (has_value : z.registers t from ≡ v) where
     assign_needs : (id : BlockId) → Need z t (call.SetWeak named from) id → ⊥
@@ -98,12 +104,13 @@ module _ (h : Shared) (z : State) (t : ℕ) (runs : Runs h z t) where
             (three h z t c a i class.Weak (Some w.0) runs.stands (subst (IsPlaced h) w.2 placed) w.1 (record { holder = refl; word = refl })
             ∙ sym (ap (loc_misuse h) w.2) ∙ wrong)
 
-    pub assign_step : used_by h.blocks ≤ h.options.heap_quanta → loc_misuse h l ≡ None → Stepped (showing h l v) z t (call.SetWeak named from) (reply.Block v)
+    pub assign_step : used_by h.blocks ≤ h.options.heap_quanta → loc_misuse h l ≡ None → Stepped (showing h l (shown_in h v)) z t (call.SetWeak named from) (reply.Block (shown_in h v))
     assign_step fits right =
-        let mid = with_weak z l v in
-        let shows : v ≡ value_to_show z (z.registers t from) = shown_whole z v runs.stands.cycle ∙ sym (ap (value_to_show z) has_value) in
-        let sets : mid ≡ option_map_or (λ l. with_weak z l v) (weak_loc z t named) z = sym (ap (λ o. option_map_or (λ l. with_weak z l v) o z) at) in
-        (seen_now mid, step_plain z _ (seen_now mid) runs.running assign_needs (go named at) (mid, (shows, sets), refl), seen_stands (showing h l v) mid (showing_stands h z l v runs.stands))
+        let now = shown_in h v in
+        let mid = with_weak z l now in
+        let shows : now ≡ value_to_show z (z.registers t from) = shown_same h z v runs.stands ∙ sym (ap (value_to_show z) has_value) in
+        let sets : mid ≡ option_map_or (λ l. with_weak z l now) (weak_loc z t named) z = sym (ap (λ o. option_map_or (λ l. with_weak z l now) o z) at) in
+        (seen_now mid, step_plain z _ (seen_now mid) runs.running assign_needs (go named at) (mid, (shows, sets), refl), seen_stands (showing h l now) mid (showing_stands h z l now runs.stands))
       where
         go : (named : Loc) → weak_loc z t named ≡ Some l → misuse_of z t (call.SetWeak named from) (λ _. false) ≡ None
         go (loc.Root w) at = ap (λ full. first_of ((full, misuse.ZoneFull) ∷ [])) (not_full h z runs.stands fits)

@@ -1,9 +1,11 @@
 -- Codes of what models show
-use Rattle.std.specs.Prelude.{ℕ, Bool, List, Option, refl}
+use Rattle.std.specs.Prelude.{◌≡◌, ℕ, Bool, true, false, List, Option, None, Some, refl}
 use Rattle.std.specs.Coded.{Coded, code_by, coded×, coded_ℕ, coded_list, coded_option, coded_bool}
 use Rattle.std.specs.FinMap.{FinMap}
 use Rattle.std.specs.FinMap as map
 use Rattle.az_base.specs.declared.action.Action.{Action}
+use Rattle.az_base.specs.declared.action.Mode.{Mode}
+use Rattle.az_base.specs.declared.action.Mode.TheVariants as mode
 use Rattle.az_base.specs.declared.block_id.BlockId.{BlockId}
 use Rattle.az_base.specs.declared.options.Options.{Options}
 use Rattle.az_base.specs.declared.word.Word.{Word}
@@ -13,6 +15,9 @@ use Rattle.az_base.specs.Ids.{id_cmp}
 use Rattle.az_base.specs.Places.{pair_cmp, loc_cmp}
 use Rattle.block_layouts.specs.Codes.{coded_layout}
 use Rattle.block_layouts.specs.declared.layout.Layout.{Layout}
+use Rattle.quantum_space.specs.declared.shade.Shade.{Shade}
+use Rattle.quantum_space.specs.declared.shade.Shade.TheVariants as shade
+use Rattle.shared_heap.specs.Collector.{Collecting, Collector}
 use Rattle.shared_heap.specs.Holds.{Holds}
 use Rattle.shared_heap.specs.Stored.{HeapBlock, Held}
 use Rattle.shared_heap.specs.Table.{Table}
@@ -44,12 +49,54 @@ coded_assocs = map.code (coded× coded_id coded_ℕ) coded_id
 abbrev coded_weak : Coded (FinMap loc_cmp BlockId)
 coded_weak = map.code coded_loc coded_id
 
+abbrev mode_code : Mode → Bool
+mode_code mode.Full = false
+mode_code mode.Young = true
+
+abbrev mode_back : Bool → Mode
+mode_back false = mode.Full
+mode_back true = mode.Young
+
+pub mode_again : (m : Mode) → mode_back (mode_code m) ≡ m
+mode_again mode.Full = refl
+mode_again mode.Young = refl
+
+abbrev pub coded_mode : Coded Mode
+coded_mode = code_by Bool coded_bool mode_code mode_back mode_again
+
+abbrev shade_code : Shade → Option Bool
+shade_code shade.White = None
+shade_code shade.Grey = Some false
+shade_code shade.Black = Some true
+
+abbrev shade_back : Option Bool → Shade
+shade_back None = shade.White
+shade_back (Some false) = shade.Grey
+shade_back (Some true) = shade.Black
+
+pub shade_again : (f : Shade) → shade_back (shade_code f) ≡ f
+shade_again shade.White = refl
+shade_again shade.Grey = refl
+shade_again shade.Black = refl
+
+abbrev pub coded_shade : Coded Shade
+coded_shade = code_by (Option Bool) (coded_option coded_bool) shade_code shade_back shade_again
+
+abbrev pub coded_collecting : Coded Collecting
+coded_collecting = code_by (ℕ × (Mode × (List BlockId × (FinMap id_cmp Shade × (Option (List BlockId) × (ℕ × ℕ))))))
+    (coded× coded_ℕ (coded× coded_mode (coded× (coded_list coded_id) (coded× (map.code coded_id coded_shade) (coded× (coded_option (coded_list coded_id)) (coded× coded_ℕ coded_ℕ))))))
+    (λ g. (g.owner, (g.mode, (g.start, (g.shades, (g.condemned, (g.left, g.rooms)))))))
+    (λ p. record { owner = p.0; mode = p.1.0; start = p.1.1.0; shades = p.1.1.1.0; condemned = p.1.1.1.1.0; left = p.1.1.1.1.1.0; rooms = p.1.1.1.1.1.1 }) (λ _. refl)
+
+abbrev pub coded_collector : Coded Collector
+coded_collector = code_by (List BlockId × Option Collecting) (coded× (coded_list coded_id) (coded_option coded_collecting)) (λ g. (g.cards, g.cycle)) (λ p. record { cards = p.0; cycle = p.1 }) (λ _. refl)
+
 -- the tables
 abbrev Tables : Type 0
 Tables = FinMap id_cmp ℕ × (FinMap pair_cmp BlockId × FinMap loc_cmp BlockId)
 
 abbrev pub coded_shared : Coded Shared
-coded_shared = code_by (Options × (FinMap id_cmp HeapBlock × (FinMap id_cmp Holds × (List (Option BlockId) × (Tables × (Ready × List ℕ))))))
-    (coded× coded_options (coded× (map.code coded_id coded_kept) (coded× (map.code coded_id coded_holds) (coded× (coded_list (coded_option coded_id)) (coded× (coded× coded_counts (coded× coded_assocs coded_weak)) (coded× coded_ready (coded_list coded_ℕ)))))))
-    (λ h. (h.options, (h.blocks, (h.holds, (h.roots, ((h.counts, (h.assocs, h.weak)), (h.ready, h.room)))))))
-    (λ p. record { options = p.0; blocks = p.1.0; holds = p.1.1.0; roots = p.1.1.1.0; counts = p.1.1.1.1.0.0; assocs = p.1.1.1.1.0.1.0; weak = p.1.1.1.1.0.1.1; ready = p.1.1.1.1.1.0; room = p.1.1.1.1.1.1 }) (λ _. refl)
+coded_shared = code_by (Options × (FinMap id_cmp HeapBlock × (FinMap id_cmp Holds × (List (Option BlockId) × (Tables × (Ready × (List ℕ × Collector)))))))
+    (coded× coded_options (coded× (map.code coded_id coded_kept) (coded× (map.code coded_id coded_holds) (coded× (coded_list (coded_option coded_id)) (coded× (coded× coded_counts (coded× coded_assocs coded_weak)) (coded× coded_ready (coded× (coded_list coded_ℕ) coded_collector)))))))
+    (λ h. (h.options, (h.blocks, (h.holds, (h.roots, ((h.counts, (h.assocs, h.weak)), (h.ready, (h.room, h.gc))))))))
+    (λ p. record { options = p.0; blocks = p.1.0; holds = p.1.1.0; roots = p.1.1.1.0; counts = p.1.1.1.1.0.0; assocs = p.1.1.1.1.0.1.0; weak = p.1.1.1.1.0.1.1; ready = p.1.1.1.1.1.0; room = p.1.1.1.1.1.1.0; gc = p.1.1.1.1.1.1.1 }) (λ _. refl)

@@ -16,9 +16,10 @@ use Rattle.zone_model.specs.Escape.{block_named}
 use Rattle.zone_model.specs.Maps.{total}
 use Rattle.zone_model.specs.Part.{Part, part_of}
 use Rattle.zone_model.specs.Reach.{WordEdge}
-use Rattle.zone_model.specs.Sound.{Knows}
+use Rattle.zone_model.specs.Sound.{Knows, Sound}
 use Rattle.zone_model.specs.State.{State, is_escaped, is_unescaped}
 use Rattle.shared_heap.specs.Shared.{Shared, held}
+use Rattle.shared_heap.specs.Stands.{Stands}
 use Rattle.shared_heap.specs.Steps.{names}
 
 -- the word refers to the block
@@ -51,6 +52,13 @@ is_off off t q = list_any (λ (pair : ℕ × BlockId). (pair.0 == t) && same_id 
 -- each thread holds each escaped block as often as the table says
 abbrev pub HoldsAgree : Shared → State → Type 0
 HoldsAgree h z = (t : ℕ) (q : BlockId) → IsTrue (is_escaped z q) → held h t q ≡ holds_of (part_of z t) q
+
+-- the heap stands for the sound state, knows how often each block is held in it, and the thread hasn't ended
+pub record Serves (h : Shared) (z : State) (t : ℕ) : Type 0 where
+  pub stands : Stands h z
+  pub holds : HoldsAgree h z
+  pub sound : Sound z
+  pub running : z.ended t ≡ false
 
 -- the same, but for these threads and blocks
 abbrev pub HoldsAgreeBut : List (ℕ × BlockId) → Shared → State → Type 0
@@ -94,6 +102,9 @@ LeavesParts z t (call.Count reg) = Unit {0}
 LeavesParts z t (call.SetAssoc object key value) = IsShared z (z.registers t object) × IsShared z (z.registers t value)
 LeavesParts z t (call.SetWeak loc from) = IsShared z (z.registers t from) × IsShared z (block_named z t loc)
 LeavesParts z t call.Stats = Unit {0}
+LeavesParts z t (call.Begin mode) = Unit {0}
+LeavesParts z t call.Condemn = Unit {0}
+LeavesParts z t call.Finalise = Unit {0}
 LeavesParts z t _ = ⊥
 
 -- the block that a register of the thread held before, if it was one, is counted once more

@@ -2,6 +2,7 @@ pub mod Holds
 pub mod Stored
 pub mod Table
 pub mod Ready
+pub mod Collector
 pub mod Shared
 pub mod Codes
 pub mod Inside
@@ -12,3 +13,4 @@ pub mod Retained
 pub mod Assocs
 pub mod Weak
 pub mod Holding
+pub mod Cycles

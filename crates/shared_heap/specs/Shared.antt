@@ -1,18 +1,19 @@
 -- What a heap holds
-use Rattle.std.specs.Prelude.{◌≡◌, ℕ, ◌+◌, List, [], Option, Some, None, false, slice_set, drop, replicate, get_or}
-use Rattle.std.specs.Option.{option_map_or}
+use Rattle.std.specs.Prelude.{◌≡◌, ℕ, ◌+◌, ◌==◌, ◌&&◌, nat_lt, List, [], Option, Some, None, Bool, false, not, if◌then◌else◌, slice_set, drop, replicate, get_or, is_some}
+use Rattle.std.specs.Option.{option_map_or, option_and_then}
 use Rattle.std.specs.FinMap.{FinMap, get, insert, empty, len}
 use Rattle.az_base.specs.declared.action.Action.{Action}
 use Rattle.az_base.specs.declared.block_id.BlockId.{BlockId}
 use Rattle.az_base.specs.declared.options.Options.{Options}
 use Rattle.az_base.specs.declared.word.Word.{Word}
-use Rattle.az_base.specs.Ids.{id_cmp}
+use Rattle.az_base.specs.Ids.{id_cmp, among}
 use Rattle.az_base.specs.Places.{pair_cmp, loc_cmp}
 use Rattle.block_layouts.specs.declared.layout.Layout.{Layout}
 use Rattle.block_layouts.specs.Layouts.{len_of, quanta, first_words}
 use Rattle.zone_model.specs.declared.entry.Stats.{Stats}
 use Rattle.zone_model.specs.Maps.{total}
-use Rattle.zone_model.specs.State.{with_edit}
+use Rattle.zone_model.specs.State.{is_nil, with_edit}
+use Rattle.shared_heap.specs.Collector.{Collector, no_collector}
 use Rattle.shared_heap.specs.Holds.{Holds, times, with_times}
 use Rattle.shared_heap.specs.Ready.{Ready, unready, with_room}
 use Rattle.shared_heap.specs.Stored.{HeapBlock}
@@ -34,6 +35,8 @@ pub record Shared : Type 0 where
   pub ready : Ready
   -- the lengths of the blocks for which there is room, next first
   pub room : List ℕ
+  -- what it shows of its collections
+  pub gc : Collector
 
 -- what the root holds: null past the last one
 abbrev pub root_in : Shared → ℕ → Option BlockId
@@ -59,9 +62,9 @@ number_of blocks = total (λ id k. 1) blocks
 abbrev pub stats_in : Shared → Stats
 stats_in h = record { blocks = number_of h.blocks; quanta = used_by h.blocks; retained = len h.counts; weak = len h.weak; assocs = len h.assocs }
 
--- no blocks, all roots null, and all else empty
+-- no blocks, all roots null, all else empty, and no cycle open
 abbrev pub new_heap : Options → Shared
-new_heap o = record { options = o; blocks = empty; holds = empty; roots = replicate 256 None; counts = empty; assocs = empty; weak = empty; ready = unready; room = [] }
+new_heap o = record { options = o; blocks = empty; holds = empty; roots = replicate 256 None; counts = empty; assocs = empty; weak = empty; ready = unready; room = []; gc = no_collector }
 
 -- there is room for one more block with a count, and for the object and the value where they are given
 abbrev pub readied : Shared → Option BlockId → Option BlockId → Shared
@@ -103,3 +106,43 @@ admitted h id layout words = record h {
   holds = insert h.holds id empty;
   room = drop 1 h.room;
 }
+
+-- the same heap but for its collections
+abbrev pub with_gc : Shared → Collector → Shared
+with_gc h g = record h { gc = g }
+
+-- the block has actions and isn't finalised
+abbrev pub waits : HeapBlock → Bool
+waits k = not (is_nil k.actions) && not k.finalised
+
+-- a block of the heap has actions and isn't finalised
+abbrev pub awaits_in : FinMap id_cmp HeapBlock → BlockId → Bool
+awaits_in blocks id = option_map_or waits (get blocks id) false
+
+-- how many blocks have actions and aren't finalised
+abbrev pub unfinalised_by : FinMap id_cmp HeapBlock → ℕ
+unfinalised_by blocks = total (λ id k. if waits k then 1 else 0) blocks
+
+-- the condemned blocks of the open cycle, if there are any
+abbrev pub condemned_in : Shared → Option (List BlockId)
+condemned_in h = option_and_then (λ g. g.condemned) h.gc.cycle
+
+-- the block is condemned
+abbrev pub is_condemned_in : Shared → BlockId → Bool
+is_condemned_in h b = option_map_or (λ r. among r b) (condemned_in h) false
+
+-- how many condemned blocks wait for their finaliser; 0 while none are condemned
+abbrev pub finalisers_left : Shared → ℕ
+finalisers_left h = option_map_or (λ g. if is_some g.condemned then g.left else 0) h.gc.cycle 0
+
+-- another thread's cycle is open
+abbrev pub is_busy : Shared → ℕ → Bool
+is_busy h t = option_map_or (λ g. not (g.owner == t)) h.gc.cycle false
+
+-- the block is old: it has seen three Reclaims
+abbrev pub is_old_in : Shared → BlockId → Bool
+is_old_in h b = option_map_or (λ k. k.age == 3) (get h.blocks b) false
+
+-- the block is young
+abbrev pub is_young_in : Shared → BlockId → Bool
+is_young_in h b = option_map_or (λ k. nat_lt k.age 3) (get h.blocks b) false

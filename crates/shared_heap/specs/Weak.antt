@@ -1,5 +1,6 @@
 -- What a heap's weak locations show
-use Rattle.std.specs.Prelude.{Option, Some, None, IsSome}
+use Rattle.std.specs.Prelude.{Option, Some, None, IsSome, if◌then◌else◌}
+use Rattle.std.specs.Option.{option_and_then}
 use Rattle.std.specs.FinMap.{get}
 use Rattle.az_base.specs.declared.block_id.BlockId.{BlockId}
 use Rattle.az_base.specs.declared.misuse.Misuse.{Misuse}
@@ -9,7 +10,7 @@ use Rattle.az_base.specs.declared.word.Class.TheVariants as class
 use Rattle.zone_model.specs.declared.entry.Reply.{Reply}
 use Rattle.zone_model.specs.declared.entry.Reply.TheVariants as reply
 use Rattle.az_base.specs.WithValue.{with_value}
-use Rattle.shared_heap.specs.Shared.{Shared}
+use Rattle.shared_heap.specs.Shared.{Shared, is_condemned_in}
 use Rattle.shared_heap.specs.Words.{word_misuse}
 
 -- the location is a weak root, or at a place of a block of the heap
@@ -21,6 +22,10 @@ IsPlaced h (weak.Word id at) = IsSome (get h.blocks id)
 abbrev pub loc_misuse : Shared → WeakLoc → Option Misuse
 loc_misuse h (weak.Root w) = None
 loc_misuse h (weak.Word id at) = word_misuse h (Some id) at class.Weak
+
+-- what a location comes to show where a block is assigned to it: null in place of a condemned one
+abbrev pub shown_in : Shared → Option BlockId → Option BlockId
+shown_in h v = option_and_then (λ b. if is_condemned_in h b then None else Some b) v
 
 -- the location shows the block, or null, which takes the room that was ready for a value
 abbrev pub showing : Shared → WeakLoc → Option BlockId → Shared

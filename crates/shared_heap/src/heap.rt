@@ -14,6 +14,7 @@ mod admission;
 mod assocs;
 mod births;
 mod counts;
+mod cycles;
 mod ready;
 mod roots;
 mod weak;
@@ -43,12 +44,15 @@ pub struct Heap {
     used: u32,
     /// How many blocks there are.
     number: u32,
+    /// How many of them have actions and aren't finalised.
+    unfinalised: u32,
     room: Reserved,
 }
 
 impl Model for Heap {
     ghost use Rattle.shared_heap.specs.Shared.{Shared};
     ghost use Rattle.shared_heap.specs.Codes.{coded_shared};
+    ghost use Rattle.shared_heap.specs.Collector.{no_collector};
 
     ghost Value = { Shared };
 
@@ -56,7 +60,7 @@ impl Model for Heap {
 
     ghost use Rattle.shared_heap.specs.Inside.{IsHeap};
 
-    ghost view = { λ h. record { options = h.options; blocks = h.blocks.blocks; holds = h.blocks.holds; roots = h.roots.items; counts = h.counts.counts; assocs = h.assocs.pairs; weak = h.weak.shown; ready = record { counts = h.counts.spare; object = h.assocs.ready; value = h.weak.ready }; room = h.room } };
+    ghost view = { λ h. record { options = h.options; blocks = h.blocks.blocks; holds = h.blocks.holds; roots = h.roots.items; counts = h.counts.counts; assocs = h.assocs.pairs; weak = h.weak.shown; ready = record { counts = h.counts.spare; object = h.assocs.ready; value = h.weak.ready }; room = h.room; gc = no_collector } };
 
     ghost invariant = { IsHeap };
 }
@@ -77,6 +81,7 @@ impl Heap {
             weak: Weak::new(alloc),
             used: 0,
             number: 0,
+            unfinalised: 0,
             room: Reserved::none(alloc),
         })
     }

@@ -1,22 +1,27 @@
 //! Theorems over heaps and the states for which they stand. Each is the contract of a function that does nothing.
-ghost use Rattle.std.specs.Prelude.{◌≡◌, ◌<◌, ℕ, true, [], ◌∷◌, ◌++◌, List, None, Option};
-ghost use Rattle.std.specs.FinMap.{get};
+ghost use Rattle.std.specs.Prelude.{◌≡◌, ◌<◌, ℕ, true, not, [], ◌∷◌, ◌++◌, List, None, Option};
+ghost use Rattle.std.specs.FinMap.{get, retain_keys};
 ghost use Rattle.az_base.specs.declared.action.Action.{Action};
 ghost use Rattle.az_base.specs.declared.block_id.BlockId.{BlockId};
 ghost use Rattle.az_base.specs.declared.word.Word.{Word};
-ghost use Rattle.az_base.specs.Ids.{id_of, same_id};
+ghost use Rattle.az_base.specs.Ids.{among, id_of, same_id};
 ghost use Rattle.block_layouts.specs.declared.layout.Layout.{Layout};
 ghost use Rattle.zone_model.specs.declared.call.Call.{Call};
 ghost use Rattle.zone_model.specs.declared.call.Call.TheVariants as call;
 ghost use Rattle.zone_model.specs.declared.entry.Reply.{Reply};
-ghost use Rattle.zone_model.specs.Collection.{HasCycle};
+ghost use Rattle.zone_model.specs.declared.entry.Reply.TheVariants as reply;
+ghost use Rattle.zone_model.specs.Collection.{HasCondemned};
 ghost use Rattle.zone_model.specs.Escape.{with_escaped};
 ghost use Rattle.zone_model.specs.Part.{part_of};
+ghost use Rattle.zone_model.specs.Phases.{Free, Marking};
 ghost use Rattle.zone_model.specs.Quanta.{is_born_escaped};
+ghost use Rattle.zone_model.specs.Room.{WithRoom};
 ghost use Rattle.zone_model.specs.SameShared.{SameShared};
 ghost use Rattle.zone_model.specs.Sound.{Sound};
-ghost use Rattle.zone_model.specs.State.{State, Cycle};
+ghost use Rattle.zone_model.specs.State.{State};
 ghost use Rattle.zone_model.specs.Step.{Step};
+ghost use Rattle.shared_heap.specs.Collector.{Collecting};
+ghost use Rattle.shared_heap.specs.Cycles.{IsOpenOf, IsMarking, IsSettling};
 ghost use Rattle.shared_heap.specs.Holding.{holds_of, pair_of, pairs_in, replaced, HoldsAgree, HoldsAgreeBut, HoldsMore, HoldsBorn, HoldsSet, HoldsAdmitted, HoldsItsOwn, HoldsOnceMore, HoldsAsBefore, LeavesParts, ReadsTo};
 ghost use Rattle.shared_heap.specs.Shared.{Shared};
 ghost use Rattle.shared_heap.specs.Stands.{Stands, EscapedClosed};
@@ -28,9 +33,12 @@ pub fn what_is_shared_alike_is_stood_for_alike()
     ensures { (h : Shared) (z after : State) → Stands h z → SameShared z after → Stands h after }
 {}
 
-/// No call opens a cycle, and none is open in a state for which a heap stands: so a thread may leave.
-pub fn no_cycle_is_open()
-    ensures { (h : Shared) (z : State) (t : ℕ) (c : Cycle) → Stands h z → ¬ HasCycle z t c }
+/// Where a thread stands in its own cycle, the heap and the states for which it stands say alike.
+pub fn cycles_are_those_of_the_state()
+    ensures free { (h : Shared) (z : State) (t : ℕ) → Stands h z → ((g : Collecting) → IsOpenOf h t g → ⊥) → Free z t }
+    ensures none { (h : Shared) (z : State) (t : ℕ) (g : Collecting) → Stands h z → Free z t → IsOpenOf h t g → ⊥ }
+    ensures marking { (h : Shared) (z : State) (t : ℕ) → Stands h z → Marking z t → IsMarking h t }
+    ensures settling { (h : Shared) (z : State) (t : ℕ) (r : List BlockId) → Stands h z → HasCondemned z t r → IsSettling h t }
 {}
 
 /// A call that reads a block into a register counts the block that the register held before once more, for the thread,
@@ -83,4 +91,10 @@ pub fn once_more_is_one_pair()
 pub fn other_calls_leave_the_holds()
     ensures { (h new : Shared) (z after : State) (t : ℕ) (c : Call) (r : Reply) → LeavesParts z t c → Sound z → HoldsAgree h z → new.holds ≡ h.holds
         → Step z (record { thread = t; call = c; reply = r }) after → HoldsAgree new after }
+{}
+
+/// A Reclaim takes the holds of the reclaimed blocks out of the table, and all else agrees as before.
+pub fn reclaimed_blocks_leave_the_holds()
+    ensures { (h new : Shared) (z after : State) (t : ℕ) (gone kept : WithRoom) → Sound z → HoldsAgree h z → new.holds ≡ retain_keys h.holds (λ b. not (among gone.list b))
+        → Step z (record { thread = t; call = call.Reclaim; reply = reply.Settled gone kept }) after → HoldsAgree new after }
 {}

@@ -52,7 +52,7 @@ mod stored;
 pub use heap::Heap;
 pub use laws::{
     admitted_blocks_leave_the_holds_as_before, births_count_what_they_replace_once_more,
-    no_cycle_is_open, once_more_is_one_pair, other_calls_leave_the_holds,
-    reads_count_what_they_replace_once_more, sound_states_are_ready_for_heaps, what_is_said_agrees,
-    what_is_shared_alike_is_stood_for_alike,
+    cycles_are_those_of_the_state, once_more_is_one_pair, other_calls_leave_the_holds,
+    reads_count_what_they_replace_once_more, reclaimed_blocks_leave_the_holds,
+    sound_states_are_ready_for_heaps, what_is_said_agrees, what_is_shared_alike_is_stood_for_alike,
 };

@@ -4,10 +4,12 @@ ghost use Rattle.std.specs.FinMap.{get};
 ghost use Rattle.az_base.specs.declared.block_id.BlockId.{BlockId};
 ghost use Rattle.az_base.specs.Ids.{same_id};
 ghost use Rattle.block_layouts.specs.Layouts.{len_of, quanta};
+ghost use Rattle.zone_model.specs.Reached.{OpenReached};
 ghost use Rattle.zone_model.specs.State.{State};
 ghost use Rattle.zone_model.specs.Escape.{with_escaped};
 ghost use Rattle.shared_heap.specs.Holding.{HoldsAdmitted, HoldsSet};
-ghost use Rattle.shared_heap.specs.Shared.{held, used_by, holding, admitted, IsFresh};
+ghost use Rattle.shared_heap.specs.Shared.{held, used_by, holding, admitted, with_gc, IsFresh};
+ghost use Rattle.shared_heap.specs.Cycles.{Livens, blocks_in};
 ghost use Rattle.shared_heap.specs.Stands.{Stands};
 ghost use Rattle.shared_heap.specs.Steps.{IsUnescaped};
 ghost use Rattle.block_layouts.specs.Fitting.{Fits};
@@ -40,18 +42,19 @@ impl Heap {
         self.room.clear();
     }
 
-    /// An unescaped block, without actions, escapes: it is next in the room, and nobody holds it yet. It takes no
-    /// memory. O(1) expected.
+    /// An unescaped block, without actions, escapes: it is next in the room, and nobody holds it yet. While a cycle marks,
+    /// the blocks to which its words refer are enlivened. It takes no memory. O(words) expected.
     pub fn admit(&mut self, id: BlockId, layout: Layout, words: Vec<Word>)
         requires room { slice_get self.old.room 0 ≡ Some (len_of layout) }
         requires absent { get self.old.blocks id ≡ None }
         requires whole { Fits layout words.items }
         requires fits { used_by self.old.blocks + quanta (len_of layout) ≤ self.old.options.heap_quanta }
-        ensures value { self.new ≡ admitted self.old id layout words.items }
+        ensures value { self.new ≡ with_gc (admitted self.old id layout words.items) self.new.gc }
+        ensures gc { Livens self.old.gc self.new.gc (blocks_in words.items) [] }
         ensures held { HoldsAdmitted self.old self.new id }
         ensures fresh { IsFresh self.new id }
         ensures used { used_by self.new.blocks ≡ used_by self.old.blocks + quanta (len_of layout) }
-        ensures stands { (z : State) → Stands self.old z → IsUnescaped z id layout words.items → Stands self.new (with_escaped z (same_id id)) }
+        ensures stands { (z : State) → Stands self.old z → OpenReached z → IsUnescaped z id layout words.items → Stands self.new (with_escaped z (same_id id)) }
     {
         let alloc = *words.allocator();
         self.used += layout.quanta();

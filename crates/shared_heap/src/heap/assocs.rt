@@ -4,8 +4,9 @@ ghost use Rattle.std.specs.FinMap.{get};
 ghost use Rattle.az_base.specs.declared.block_id.BlockId.{BlockId};
 ghost use Rattle.zone_model.specs.declared.call.Call.TheVariants as call;
 ghost use Rattle.zone_model.specs.State.{State};
+ghost use Rattle.shared_heap.specs.Cycles.{AfterBarrier, of_option};
 ghost use Rattle.shared_heap.specs.Assocs.{assoc_reply, associated};
-ghost use Rattle.shared_heap.specs.Shared.{held};
+ghost use Rattle.shared_heap.specs.Shared.{held, with_gc};
 ghost use Rattle.shared_heap.specs.Stands.{EscapedClosed};
 ghost use Rattle.shared_heap.specs.Holding.{HoldsMore};
 ghost use Rattle.shared_heap.specs.Steps.{Runs, Stepped, after_read, names};
@@ -17,7 +18,9 @@ use zone_model::Reply;
 impl Heap {
     /// The object's value under the key becomes this block, or goes where it is null: the reply is the value before, or
     /// NullBlock. It goes to no register, so nobody holds it for that. The room that was ready for an association is
-    /// used up, even where this call is for another object. O(values of the object).
+    /// used up, even where this call is for another object. While a cycle marks, the value is enlivened; the object is
+    /// remembered where it is old and the value young, or where the value is condemned. O(values of the object), and
+    /// O(cards) where the object is remembered.
     pub fn set_assoc(
         &mut self,
         t: ThreadNo,
@@ -30,7 +33,8 @@ impl Heap {
         ensures sure { IfSome object (λ b. self.old.ready.object ≡ Some b) → IsOk result }
         ensures taken { value ≡ None → IsOk result }
         ensures reply { IfOk result (λ r. r ≡ assoc_reply self.old object key.0) }
-        ensures value { IfOk result (λ r. self.new ≡ associated self.old object key.0 value) }
+        ensures value { IfOk result (λ r. self.new ≡ with_gc (associated self.old object key.0 value) self.new.gc) }
+        ensures gc { IfOk result (λ r. AfterBarrier self.old.gc self.new.gc r (of_option value) (of_option object)) }
         ensures step { IfOk result (λ r. (z : State) (reg from : ℕ) → Runs self.old z t → EscapedClosed z → z.registers t reg ≡ object → z.registers t from ≡ value → Stepped self.new z t (call.SetAssoc reg key from) r) }
         ensures err { OnErr result (self.new ≡ self.old) }
     {

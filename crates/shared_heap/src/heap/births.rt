@@ -7,7 +7,7 @@ ghost use Rattle.block_layouts.specs.Layouts.{len_of, quanta, first_words};
 ghost use Rattle.zone_model.specs.declared.call.Call.TheVariants as call;
 ghost use Rattle.zone_model.specs.declared.entry.Reply.TheVariants as reply;
 ghost use Rattle.zone_model.specs.Quanta.{is_born_escaped};
-ghost use Rattle.zone_model.specs.State.{State};
+ghost use Rattle.zone_model.specs.State.{State, is_nil};
 ghost use Rattle.shared_heap.specs.Holds.{with_times};
 ghost use Rattle.shared_heap.specs.Holding.{HoldsBorn};
 ghost use Rattle.shared_heap.specs.Shared.{held, used_by, with_birth, newly};
@@ -134,12 +134,21 @@ impl Heap {
         ensures err { OnErr result (self.new ≡ self.old) }
     {
         let quanta = layout.quanta();
+        let waiting = waiting(actions);
         let stored = born(alloc, t, layout, actions)?;
         self.blocks.add(id, stored)?;
         self.used += quanta;
         self.number += 1;
+        self.unfinalised += waiting;
         Ok(())
     }
+}
+
+/// How many finalisers a block with these actions has to run: one, or none.
+fn waiting(actions: &[Action]) -> u32
+    ensures { result ≡ (if is_nil actions.now then 0 else 1) }
+{
+    if actions.is_empty() { 0 } else { 1 }
 }
 
 /// A block at its birth, which the thread holds once.

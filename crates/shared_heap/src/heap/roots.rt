@@ -1,11 +1,12 @@
 //! The roots.
-ghost use Rattle.std.specs.Prelude.{◌≡◌, ◌+◌, ℕ, IfOk, IfSome, IsSome, OnOk, OnErr, ◌==◌, ◌&&◌, if◌then◌else◌, get_or, None};
+ghost use Rattle.std.specs.Prelude.{◌≡◌, ◌+◌, ℕ, IfOk, IfSome, IsSome, OnOk, OnErr, ◌==◌, ◌&&◌, if◌then◌else◌, get_or, None, []};
 ghost use Rattle.std.specs.FinMap.{get};
 ghost use Rattle.az_base.specs.declared.block_id.BlockId.{BlockId};
 ghost use Rattle.zone_model.specs.declared.call.Call.TheVariants as call;
 ghost use Rattle.zone_model.specs.declared.entry.Reply.TheVariants as reply;
 ghost use Rattle.zone_model.specs.State.{State};
-ghost use Rattle.shared_heap.specs.Shared.{root_in, rooted, holding_more};
+ghost use Rattle.shared_heap.specs.Shared.{root_in, rooted, holding_more, with_gc};
+ghost use Rattle.shared_heap.specs.Cycles.{Livens, of_option};
 ghost use Rattle.shared_heap.specs.Stands.{EscapedClosed};
 ghost use Rattle.shared_heap.specs.Holding.{HoldsMore};
 ghost use Rattle.shared_heap.specs.Steps.{Runs, Stepped, after_read, names};
@@ -15,11 +16,12 @@ use az_base::{BlockId, NoMemory, RootNo, ThreadNo};
 use zone_model::Reply;
 
 impl Heap {
-    /// The root gets a block, or null. O(1).
+    /// The root gets a block, or null. While a cycle marks, the block is enlivened. It takes no memory. O(1).
     pub fn set_root(&mut self, t: ThreadNo, root: RootNo, value: Option<BlockId>) -> Reply
         requires escaped { IfSome value (λ b. IsSome (get self.old.blocks b)) }
         ensures reply { result ≡ reply.Done }
-        ensures value { self.new ≡ rooted self.old root.0 value }
+        ensures value { self.new ≡ with_gc (rooted self.old root.0 value) self.new.gc }
+        ensures gc { Livens self.old.gc self.new.gc (of_option value) [] }
         ensures step { (z : State) (from : ℕ) → Runs self.old z t → EscapedClosed z → z.registers t from ≡ value → Stepped self.new z t (call.SetRoot root from) result }
     {
         self.roots[root.0 as usize] = value;

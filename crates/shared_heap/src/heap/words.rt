@@ -8,7 +8,8 @@ ghost use Rattle.zone_model.specs.declared.call.Call.{Call};
 ghost use Rattle.zone_model.specs.declared.call.Call.TheVariants as call;
 ghost use Rattle.zone_model.specs.declared.entry.Reply.TheVariants as reply;
 ghost use Rattle.zone_model.specs.State.{State, reference, referent};
-ghost use Rattle.shared_heap.specs.Shared.{held, used_by};
+ghost use Rattle.shared_heap.specs.Cycles.{AfterBarrier, of_option};
+ghost use Rattle.shared_heap.specs.Shared.{held, used_by, with_gc};
 ghost use Rattle.shared_heap.specs.Stands.{Stands, EscapedClosed};
 ghost use Rattle.shared_heap.specs.Holding.{HoldsMore};
 ghost use Rattle.shared_heap.specs.Steps.{Runs, Stepped, NeedsWord, first_three, after_read, after_write, names};
@@ -95,7 +96,9 @@ impl Heap {
         }
     }
 
-    /// Writes a Strong word. It takes no memory yet. O(1) expected.
+    /// Writes a Strong word. While a cycle marks, the block that is stored is enlivened; the one into which it is stored
+    /// is remembered where it is old and the stored one young, or where that one is condemned. O(1) expected, and
+    /// O(cards) where a block is remembered.
     pub fn store(
         &mut self,
         t: ThreadNo,
@@ -107,10 +110,14 @@ impl Heap {
         requires escaped { IfSome value (λ b. IsSome (get self.old.blocks b)) }
         ensures sure { IsOk result }
         ensures reply { IfOk result (λ r. r ≡ reply_or (word_misuse self.old into at class.Strong) reply.Done) }
-        ensures value { IfOk result (λ r. self.new ≡ after_write self.old into at (reference value) r) }
+        ensures value { IfOk result (λ r. self.new ≡ with_gc (after_write self.old into at (reference value) r) self.new.gc) }
+        ensures gc { IfOk result (λ r. AfterBarrier self.old.gc self.new.gc r (of_option value) (of_option into)) }
         ensures step { IfOk result (λ r. (z : State) (reg from : ℕ) → Runs self.old z t → EscapedClosed z → z.registers t reg ≡ into → z.registers t from ≡ value → Stepped self.new z t (call.Store reg at from) r) }
     {
-        Ok(self.write(into, at, Class::Strong, reference(value)))
+        self.idle();
+        let reply = self.write(into, at, Class::Strong, reference(value));
+        self.idle();
+        Ok(reply)
     }
 
     /// Writes a Plain word. O(1) expected.

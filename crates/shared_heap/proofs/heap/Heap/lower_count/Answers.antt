@@ -6,7 +6,9 @@ invariant_of-self c = let i = c.self.invariant in record {
   used = i.used;
   fits = i.fits;
   number = i.number;
+  unfinalised = i.unfinalised;
   few = i.few;
+  some_wait = i.some_wait;
   roots = i.roots;
   room = i.room;
   counts = below_lowered c.lower.result c.self.inside.counts c.lower.new.self c.in-Some.id c.self.inside.options.counts c.lower.ensures.answer c.lower.ensures.counts c.lower.ensures.err i.counts;

@@ -1,11 +1,11 @@
-use Rattle.std.proofs.Common.{◌∙◌, ap, refl, arith, length, Option, None}
+use Rattle.std.proofs.Common.{◌∙◌, ap, refl, arith, length, Option, None, ℕ, cond}
 use Rattle.std.proofs.lemmas.List.{length-replicate}
 use Rattle.az_base.specs.declared.block_id.BlockId.{BlockId}
 use Rattle.az_base.specs.Ids.{id_cmp}
 use Rattle.block_layouts.specs.Layouts.{quanta, len_of}
 use Rattle.zone_model.proofs.MapLaws.{total-empty}
 use Rattle.shared_heap.specs.Stored.{HeapBlock}
-use Rattle.shared_heap.specs.Shared.{used_by, number_of}
+use Rattle.shared_heap.specs.Shared.{used_by, number_of, unfinalised_by, waits}
 use Rattle.shared_heap.proofs.Retained.{below_empty}
 use Rattle.shared_heap.proofs.Standing.{opening_stands}
 use Rattle.shared_heap.proofs.heap.Heap.new.Goals as goal
@@ -15,7 +15,9 @@ invariant_of-result c = record {
   used = ap used_by c.new.ensures.blocks ∙ total-empty id_cmp (λ id (k : HeapBlock). quanta (len_of k.layout));
   fits = omega arith;
   number = ap number_of c.new.ensures.blocks ∙ total-empty id_cmp (λ id (k : HeapBlock). 1);
+  unfinalised = ap unfinalised_by c.new.ensures.blocks ∙ total-empty id_cmp (λ id (k : HeapBlock). cond {A = ℕ} (waits k) 1 0);
   few = omega arith;
+  some_wait = omega arith;
   roots = ap length c.in_ok-roots.ensures.items ∙ length-replicate 256 (let o : Option BlockId = None in o);
   room = rw c.none.ensures (omega arith);
   counts = below_empty c.new-2.result.counts c.args.options.counts c.new-2.ensures.counts;

@@ -1,6 +1,8 @@
 use Rattle.std.proofs.Common.{◌∙◌, ap, refl, arith}
 use Rattle.std.specs.FinMap.{get}
+use Rattle.shared_heap.specs.Cycles.{of_option}
 use Rattle.shared_heap.specs.Shared.{Shared}
+use Rattle.shared_heap.proofs.Collecting.{none_livens}
 use Rattle.shared_heap.proofs.Assocs.{set_null, set_step}
 use Rattle.shared_heap.proofs.heap.Heap.set_assoc.Goals as goal
 
@@ -15,3 +17,4 @@ returns-clause-step c = λ z reg from runs sound holds has_value.
     c.in-Some.is
     (c.in_ok-before.ensures.before ∙ ap (λ (h : Shared). get h.assocs (c.in-Some.object, c.args.key.0)) c.self.view_is)
     (rw (← c.self.view_is, c.in_ok-before.ensures.pairs, c.in_ok-before.ensures.ready) refl)
+    (rw (← c.self.view_is) (none_livens (of_option c.args.value) (of_option c.args.object)))

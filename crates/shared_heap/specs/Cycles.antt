@@ -1,0 +1,185 @@
+-- What the calls of a cycle do, told from what the heap shows
+use Rattle.std.specs.Prelude.{◌≡◌, ◌≢◌, ◌≤◌, ◌+◌, ◌-◌, ◌&&◌, ◌⊎◌, ◌↔◌, ℕ, true, not, List, [], ◌∷◌, Option, None, Some, IsTrue, IsSome, if◌then◌else◌, find, fold, option_map, slice_set, slice_get, min, count_by}
+use Rattle.std.specs.Option.{option_map_or}
+use Rattle.std.specs.List.Sorted.{IsStrictlySortedBy}
+use Rattle.std.specs.FinMap.{FinMap, get, retain_keys, empty}
+use Rattle.az_base.specs.declared.action.Action.{Action}
+use Rattle.az_base.specs.declared.action.Action.TheVariants as action
+use Rattle.az_base.specs.declared.action.Mode.{Mode}
+use Rattle.az_base.specs.declared.block_id.BlockId.{BlockId}
+use Rattle.az_base.specs.declared.word.Word.{Word}
+use Rattle.az_base.specs.declared.word.Word.TheVariants as word
+use Rattle.az_base.specs.Ids.{id_cmp, among}
+use Rattle.quantum_space.specs.declared.shade.Shade.{Shade}
+use Rattle.quantum_space.specs.declared.shade.Shade.TheVariants as shade
+use Rattle.gen_marker.specs.Marking.{blacks, is_white}
+use Rattle.zone_model.specs.declared.entry.Reply.{Reply}
+use Rattle.zone_model.specs.declared.entry.Reply.TheVariants as reply
+use Rattle.zone_model.specs.State.{referent, with_edit, is_word_of}
+use Rattle.zone_model.specs.Collection.{shows_one}
+use Rattle.shared_heap.specs.Collector.{Collecting, Collector, shade_in}
+use Rattle.shared_heap.specs.Shared.{Shared, awaits_in, unfinalised_by, is_old_in, is_young_in}
+use Rattle.shared_heap.specs.Stored.{HeapBlock}
+
+-- the thread's own cycle is open, and this is it
+abbrev pub IsOpenOf : Shared → ℕ → Collecting → Type 0
+IsOpenOf h t g = (h.gc.cycle ≡ Some g) × (g.owner ≡ t)
+
+-- the thread's own cycle is open, and isn't condemned
+abbrev pub IsMarking : Shared → ℕ → Type 0
+IsMarking h t = (g : Collecting) × IsOpenOf h t g × (g.condemned ≡ None)
+
+-- the thread's own cycle is open, and is condemned
+abbrev pub IsSettling : Shared → ℕ → Type 0
+IsSettling h t = (g : Collecting) × (r : List BlockId) × IsOpenOf h t g × (g.condemned ≡ Some r)
+
+-- a cycle opened, with room for the lists of the entries of Condemn and Reclaim
+pub record Opens (h : Shared) (t : ℕ) (mode : Mode) (new : Collector) : Type 0 where
+  pub cycle : Collecting
+  pub is : new ≡ record h.gc { cycle = Some cycle }
+  pub owner : cycle.owner ≡ t
+  pub mode_is : cycle.mode ≡ mode
+  pub start : (b : BlockId) → IsTrue (among cycle.start b) ↔ IsSome (get h.blocks b)
+  pub fresh : cycle.condemned ≡ None
+  pub left : cycle.left ≡ unfinalised_by h.blocks
+  pub rooms : cycle.rooms ≡ 3
+  -- nothing is scanned yet
+  pub none_black : blacks cycle.start (shade_in cycle) ≡ 0
+
+-- the collector after a `begin` with this reply
+abbrev pub AfterBegin : Shared → ℕ → Mode → Reply → Collector → Type 0
+AfterBegin h t mode reply.Busy new = new ≡ h.gc
+AfterBegin h t mode reply.Begun new = Opens h t mode new
+AfterBegin h t mode _ new = ⊥
+
+-- shades got darker, and all else stays
+pub record Darkens (old new : Collector) : Type 0 where
+  pub before : Collecting
+  pub after : Collecting
+  pub was : old.cycle ≡ Some before
+  pub is : new ≡ record old { cycle = Some after }
+  pub same : after ≡ record before { shades = after.shades }
+  pub black : (b : BlockId) → shade_in before b ≡ shade.Black → shade_in after b ≡ shade.Black
+  pub dark : (b : BlockId) → shade_in before b ≢ shade.White → shade_in after b ≢ shade.White
+
+-- the number of an open cycle that isn't condemned; 0 where there is none
+abbrev pub marked_by : (Collecting → ℕ) → Option Collecting → ℕ
+marked_by f None = 0
+marked_by f (Some g) = option_map_or (λ r. 0) g.condemned (f g)
+
+-- how many blocks of the start are black
+abbrev pub black_in : Shared → ℕ
+black_in h = marked_by (λ g. blacks g.start (shade_in g)) h.gc.cycle
+
+-- these blocks are condemned: no weak location shows one of them any more
+pub record Condemned (h : Shared) (r : List BlockId) (new : Shared) : Type 0 where
+  pub before : Collecting
+  pub was : h.gc.cycle ≡ Some before
+  pub left : ℕ
+  pub is : new ≡ record h { weak = retain_keys h.weak (λ l. not (shows_one r (get h.weak l))); gc = record h.gc { cycle = Some (record before { shades = empty; condemned = Some r; left = left }) } }
+  pub ascending : IsStrictlySortedBy id_cmp r
+  pub start : (b : BlockId) → IsTrue (among r b) → IsTrue (among before.start b)
+  -- its finalisers are those that wait, and no more than were foreseen
+  pub waiting : left ≡ count_by (awaits_in h.blocks) r
+  pub foreseen : left ≤ before.left
+
+-- the heap after a `condemn` with this reply
+abbrev pub AfterCondemn : Shared → Reply → Shared → Type 0
+AfterCondemn h (reply.Condemned r) new = Condemned h r.list new
+AfterCondemn h _ new = ⊥
+
+-- the roots after an action of the block: it puts the block, or what a Strong word of it holds, into a root
+abbrev pub after_action : FinMap id_cmp HeapBlock → BlockId → List (Option BlockId) → Action → List (Option BlockId)
+after_action blocks b roots (action.Keep g) = slice_set roots g.0 (Some b)
+after_action blocks b roots (action.Pass g at) = slice_set roots g.0 (referent (option_map_or (λ (k : HeapBlock). slice_get k.words at) (get blocks b) None))
+
+-- the actions of a block of the heap
+abbrev pub actions_in : FinMap id_cmp HeapBlock → BlockId → List Action
+actions_in blocks b = option_map_or (λ (k : HeapBlock). k.actions) (get blocks b) []
+
+-- one finaliser less is left to run
+abbrev pub one_left_less : Collector → Collector
+one_left_less gc = record gc { cycle = option_map (λ (g : Collecting). record g { left = g.left - 1 }) gc.cycle }
+
+-- the heap after the finaliser of a block
+abbrev pub finalised : Shared → BlockId → Shared
+finalised h b = record h {
+  roots = fold (after_action h.blocks b) h.roots (actions_in h.blocks b);
+  blocks = with_edit h.blocks b (λ k. record k { finalised = true });
+  gc = one_left_less h.gc;
+}
+
+-- the block is the least condemned one that waits for its finaliser
+abbrev pub IsNext : Shared → BlockId → Type 0
+IsNext h b = (g : Collecting) × (r : List BlockId) × (h.gc.cycle ≡ Some g) × (g.condemned ≡ Some r) × (find (awaits_in h.blocks) r ≡ Some b)
+
+-- the heap after a `finalise_next` with this reply
+abbrev pub AfterFinalise : Shared → Reply → Shared → Type 0
+AfterFinalise h (reply.Finalised b) new = IsNext h b × (new ≡ finalised h b)
+AfterFinalise h _ new = ⊥
+
+-- a block, a Reclaim later
+abbrev pub older : HeapBlock → HeapBlock
+older k = record k { age = min (k.age + 1) 3 }
+
+-- a Strong word of the block refers to another one, or an association of it has that one as its value
+abbrev pub HeapEdge : Shared → BlockId → BlockId → Type 0
+HeapEdge h a b = ((k : HeapBlock) × (i : ℕ) × (get h.blocks a ≡ Some k) × (slice_get k.words i ≡ Some (word.Block b))) ⊎ ((key : ℕ) × (get h.assocs (a, key) ≡ Some b))
+
+-- the block is old and refers to a young one
+abbrev pub RefersToYoung : Shared → BlockId → Type 0
+RefersToYoung h a = IsTrue (is_old_in h a) × ((b : BlockId) × HeapEdge h a b × IsTrue (is_young_in h b))
+
+-- the heap without these blocks, a Reclaim later, with exactly the old blocks remembered that refer to young ones; for which calls there is room is not told
+pub record Reclaimed (h : Shared) (gone : List BlockId) (new : Shared) : Type 0 where
+  pub blocks : (b : BlockId) → get new.blocks b ≡ (if among gone b then None else option_map older (get h.blocks b))
+  pub holds : new.holds ≡ retain_keys h.holds (λ b. not (among gone b))
+  pub assocs : new.assocs ≡ retain_keys h.assocs (λ p. not (among gone p.0))
+  pub weak : new.weak ≡ retain_keys h.weak (λ l. not (is_word_of gone l))
+  pub others : (new.options ≡ h.options) × (new.roots ≡ h.roots) × (new.counts ≡ h.counts)
+  pub room : new.room ≡ []
+  pub closed : new.gc.cycle ≡ None
+  pub cards : (a : BlockId) → IsTrue (among new.gc.cards a) ↔ RefersToYoung new a
+
+-- the heap after a `reclaim` with this reply
+abbrev pub AfterReclaim : Shared → Reply → Shared → Type 0
+AfterReclaim h (reply.Settled gone kept) new = Reclaimed h gone.list new
+AfterReclaim h _ new = ⊥
+
+-- one list less is left to lend
+abbrev pub one_lent : Collector → Collector
+one_lent gc = record gc { cycle = option_map (λ (g : Collecting). record g { rooms = g.rooms - 1 }) gc.cycle }
+
+-- a cycle without its shades
+abbrev pub unshaded : Collecting → Collecting
+unshaded g = record g { shades = empty }
+
+-- the shade of a block where these were enlivened: grey in place of white
+abbrev pub enlivened : List BlockId → Collecting → BlockId → Shade
+enlivened live g b = if among live b && is_white (shade_in g b) then shade.Grey else shade_in g b
+
+-- these blocks were enlivened, and these may have been remembered
+pub record Livens (old new : Collector) (live carded : List BlockId) : Type 0 where
+  -- of an open cycle all stays but its shades
+  pub cycle : option_map unshaded new.cycle ≡ option_map unshaded old.cycle
+  -- while it marks, those of the start that were white are grey, and the others have the shade that they had
+  pub shades : (f g : Collecting) → old.cycle ≡ Some f → new.cycle ≡ Some g → f.condemned ≡ None → (b : BlockId) → IsTrue (among f.start b) → shade_in g b ≡ enlivened live f b
+  -- who was remembered still is, and nobody else but these
+  pub cards : (b : BlockId) → IsTrue (among old.cards b) → IsTrue (among new.cards b)
+  pub fewer : (b : BlockId) → IsTrue (among new.cards b) → IsTrue (among old.cards b) ⊎ IsTrue (among carded b)
+
+-- the collector after a call with this reply, which enlivens and remembers unless it is a misuse
+abbrev pub AfterBarrier : Collector → Collector → Reply → List BlockId → List BlockId → Type 0
+AfterBarrier old new (reply.Misuse m) live carded = new ≡ old
+AfterBarrier old new _ live carded = Livens old new live carded
+
+-- the block, if there is one
+abbrev pub of_option : Option BlockId → List BlockId
+of_option None = []
+of_option (Some b) = b ∷ []
+
+-- the blocks to which the words refer
+abbrev pub blocks_in : List Word → List BlockId
+blocks_in [] = []
+blocks_in (word.Block b ∷ words) = b ∷ blocks_in words
+blocks_in (w ∷ words) = blocks_in words
