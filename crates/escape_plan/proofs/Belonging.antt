@@ -35,7 +35,7 @@ pub part_is : (l : LocalSet) (z : State) → Belongs l z → l.waiting ≡ [] �
 part_is l z b out = subst (λ (es : List Entry). LocalRun (part_of z l.thread) l.thread es (part_in l)) out b.run
 
 pub agrees : (l : LocalSet) (h : Shared) (z : State) → Belongs l z → IsHeapOf h z → l.waiting ≡ [] → Agree l h z
-agrees l h z b k out = record { part = part_is l z b out; stands = k.stands; holds = k.holds; own = holds_its_own z k.sound }
+agrees l h z b k out = record { part = part_is l z b out; stands = k.stands; holds = k.holds; own = holds_its_own z k.sound; reached = k.sound.reached }
 
 -- a path between blocks that ends at one that is there stays within what is closed
 stays_within : (p : Part) (ids : List BlockId) (a : BlockId) (steps : List BlockId) (q : BlockId) → ((a b : BlockId) → among ids a ≡ true → WordEdge p.blocks a b → is_in p b ≡ true → among ids b ≡ true)

@@ -13,6 +13,8 @@ use Rattle.block_layouts.specs.declared.layout.Layout.{Layout}
 use Rattle.block_layouts.specs.Layouts.{len_of, quanta}
 use Rattle.zone_model.specs.Escape.{with_escaped}
 use Rattle.zone_model.specs.Part.{Part, part_of, is_in, leave_part}
+use Rattle.zone_model.specs.Reached.{OpenReached}
+use Rattle.zone_model.proofs.Reaching.{escape_reached}
 use Rattle.zone_model.specs.State.{State, Block, is_escaped, is_own}
 use Rattle.zone_model.proofs.Blocks.{is_out, left_get, got_escaped, escape_at, own_thread}
 use Rattle.zone_model.proofs.PartChanges.{escaped_part}
@@ -131,12 +133,13 @@ module _ (l : LocalSet) (h : Shared) (z : State) (id : BlockId) (layout : Layout
             no_test true n k = refl
             no_test false n k = refl
 
-    pub agree_after : ((y : State) → Stands told y → IsUnescaped y id layout words → Stands in_it (with_escaped y (same_id id))) → ((y : State) → Stands in_it y → Stands k y) → Agree m k after
+    pub agree_after : ((y : State) → Stands told y → OpenReached y → IsUnescaped y id layout words → Stands in_it (with_escaped y (same_id id))) → ((y : State) → Stands in_it y → Stands k y) → Agree m k after
     agree_after stands_in stands_k = record {
       part = part_after;
-      stands = stands_k after (stands_in z (t.stands z a.stands) unescaped);
+      stands = stands_k after (stands_in z (t.stands z a.stands) a.reached unescaped);
       holds = holds_after;
       own = own_still z id layout words unescaped a.own;
+      reached = escape_reached z (same_id id) a.reached;
     }
 
 -- the blocks that are left, after the first was moved

@@ -7,6 +7,7 @@ use Rattle.az_base.specs.declared.word.Word.{Word}
 use Rattle.az_base.specs.Ids.{among, same_id}
 use Rattle.zone_model.specs.Escape.{with_escaped}
 use Rattle.zone_model.specs.Part.{part_of, is_in}
+use Rattle.zone_model.specs.Reached.{OpenReached}
 use Rattle.zone_model.specs.State.{State}
 use Rattle.shared_heap.specs.Holding.{HoldsAgree, HoldsItsOwn, refers_to}
 use Rattle.shared_heap.specs.Shared.{Shared, held, used_by}
@@ -23,6 +24,7 @@ pub record Agree (l : LocalSet) (h : Shared) (z : State) : Type 0 where
   pub stands : Stands h z
   pub holds : HoldsAgree h z
   pub own : HoldsItsOwn z
+  pub reached : OpenReached z
 
 -- a word among these refers to the block
 abbrev pub refer_to : List Word → BlockId → Bool
