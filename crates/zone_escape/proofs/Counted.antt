@@ -20,11 +20,13 @@ use Rattle.zone_model.specs.Part.{is_in}
 use Rattle.zone_model.specs.Quanta.{quanta_needed}
 use Rattle.zone_model.proofs.PartEffects.{out_not_own}
 use Rattle.zone_model.proofs.PartNeeds.{in_part}
-use Rattle.zone_model.proofs.Steps.{step_plain, unseen}
+use Rattle.zone_model.specs.Step.{seen_now}
+use Rattle.zone_model.proofs.Steps.{step_plain}
 use Rattle.shared_heap.specs.Retained.{retain_misuse, after_retain, after_release}
 use Rattle.shared_heap.specs.Shared.{Shared}
 use Rattle.shared_heap.specs.Stands.{Stands}
 use Rattle.shared_heap.specs.Steps as shared
+use Rattle.shared_heap.proofs.Standing.{seen_stands}
 use Rattle.local_set.specs.LocalSets.{LocalSet, part_in}
 use Rattle.escape_plan.specs.Together.{Together}
 use Rattle.zone_escape.specs.Making.{CanMake}
@@ -61,9 +63,9 @@ module _ (l : LocalSet) (h : Shared) (c : Call) (can : CanMake l h c) (reg : ℕ
 
   pub own_counted : shared.Stepped h z l.thread (call.Count reg) (reply.Number 0)
   own_counted = (
-    z,
-    step_plain z _ z (running l h c can z t) (λ q n. n) own_counts (z, (sym (ap (λ o. option_map_or (λ q. state.count_of z q) o 0) in_register ∙ no_count), refl), sym (unseen z t.heap.stands.cycle)),
-    t.heap.stands,
+    seen_now z,
+    step_plain z _ (seen_now z) (running l h c can z t) (λ q n. n) own_counts (z, (sym (ap (λ o. option_map_or (λ q. state.count_of z q) o 0) in_register ∙ no_count), refl), refl),
+    seen_stands h z t.heap.stands,
   )
 
   -- a `retain` is a misuse where no count may be positive

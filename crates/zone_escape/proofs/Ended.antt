@@ -14,9 +14,11 @@ use Rattle.zone_model.specs.Collection.{Lists, Leaves, with_end}
 use Rattle.zone_model.specs.Part.{Part, part_of, is_in}
 use Rattle.zone_model.specs.Room.{WithRoom}
 use Rattle.zone_model.specs.SameShared.{HoldsRef, SameShared, SeesMore, escaped_only}
-use Rattle.zone_model.specs.State.{State, Block, Cycle, is_own, is_escaped, without_blocks}
-use Rattle.zone_model.specs.Step.{Step, seen_now}
+use Rattle.zone_model.specs.Phases.{Free}
+use Rattle.zone_model.specs.State.{State, Block, Cycle, Moment, is_own, is_escaped, without_blocks}
+use Rattle.zone_model.specs.Step.{Step, seen_now, with_moment}
 use Rattle.zone_model.proofs.Blocks.{is_inside, own_inside, left_get}
+use Rattle.zone_model.proofs.Moments.{sees}
 use Rattle.zone_model.proofs.PartNeeds.{in_part}
 use Rattle.zone_model.proofs.SoundLaws.{own_part, others_parts}
 use Rattle.zone_model.proofs.Soundness.{step_sound}
@@ -24,7 +26,7 @@ use Rattle.zone_model.proofs.Steps.{step_plain}
 use Rattle.shared_heap.specs.Holding.{is_block, holds_of, HoldsAgree}
 use Rattle.shared_heap.specs.Shared.{Shared, held}
 use Rattle.shared_heap.proofs.Agreeing.{here_escaped}
-use Rattle.shared_heap.proofs.Alike.{stands_same, none_open}
+use Rattle.shared_heap.proofs.Alike.{stands_same}
 use Rattle.shared_heap.proofs.Unheld.{unheld}
 use Rattle.local_set.specs.Holds.{one_if, register_holds, word_holds, outs}
 use Rattle.local_set.specs.LocalSets.{LocalSet, part_in, held_in}
@@ -136,9 +138,14 @@ let_go l h mid k own all first then = (
     either true b h = cc
     either false b h = (refl, h)
 
-seen_none : (f : Cycle → Cycle) (c : Option Cycle) → c ≡ None → SeesMore c (option_map f c)
-seen_none f None e = tt
-seen_none f (Some c) e = cc (e)
+-- an open cycle may have seen one moment more
+sees_now : (m : Moment) (c : Option Cycle) → SeesMore c (option_map (with_moment m) c)
+sees_now m None = tt
+sees_now m (Some c) = go c.condemned refl
+  where
+    go : (o : Option (List BlockId)) → c.condemned ≡ o → SeesMore (Some c) (Some (with_moment m c))
+    go None e = (m ∷ [], sees m c e)
+    go (Some r) e = ([], ap (λ (o : Option (List BlockId)). cond (is_some o) c (record c { moments = m ∷ c.moments })) e)
 
 inside_alone : (o : Option Block) → IsTrue (is_inside o) → escaped_only o ≡ None
 inside_alone None h = refl
@@ -149,7 +156,8 @@ inside_alone (Some b) h = go b.since h
     go (Some n) h = cc (h)
 
 module _ (l m : LocalSet) (h k : Shared) (gone : WithRoom) (can : CanMake l h call.Leave) (own : Lists gone.list (λ b. IsTrue (is_in (part_in l) b))) (told : LetsGo l h k)
-    (cleared : part_in m ≡ record (part_in l) { registers = λ r. None; blocks = empty; ended = true }) (rest : m ≡ record l { registers = m.registers; published = m.registers; blocks = []; changed = []; ended = true }) where
+    (cleared : part_in m ≡ record (part_in l) { registers = λ r. None; blocks = empty; ended = true }) (rest : m ≡ record l { registers = m.registers; published = m.registers; blocks = []; changed = []; ended = true })
+    (free : (z : State) → Together l h z → Free z l.thread) where
   -- the state after its leave
   abbrev ended : State → State
   ended z = seen_now (with_end (without_blocks z gone.list) l.thread)
@@ -163,7 +171,7 @@ module _ (l m : LocalSet) (h k : Shared) (gone : WithRoom) (can : CanMake l h ca
 
     leaves : Leaves z l.thread gone.list (with_end (without_blocks z gone.list) l.thread)
     leaves = record {
-      no_cycle = λ c. none_open h z l.thread c is.heap.stands;
+      no_cycle = free z is;
       gone_ones = (own.0, λ q. (λ i. sym (in_is q) ∙ (own.1 q).0 i, λ o. (own.1 q).1 (in_is q ∙ o)));
       does = refl;
     }
@@ -179,7 +187,7 @@ module _ (l m : LocalSet) (h k : Shared) (gone : WithRoom) (can : CanMake l h ca
         go false e = refl
 
     shared : SameShared z (ended z)
-    shared = record { options = refl; blocks = alike; roots = refl; counts = refl; weak = refl; assocs = refl; reclaims = refl; cycle = seen_none _ z.cycle is.heap.stands.cycle }
+    shared = record { options = refl; blocks = alike; roots = refl; counts = refl; weak = refl; assocs = refl; reclaims = refl; cycle = sees_now _ z.cycle }
 
     last_part : part_of (ended z) l.thread ≡ part_in m
     last_part = let p = own_part z is.heap.sound _ _ step in p.2 ∙ ap (λ (p : Part). record p { registers = λ r. None; blocks = empty; ended = true }) (sym here) ∙ sym cleared

@@ -19,7 +19,7 @@ use Rattle.zone_model.specs.State.{State}
 use Rattle.zone_model.specs.Step.{Step, Happens}
 use Rattle.zone_model.proofs.Soundness.{step_sound}
 use Rattle.shared_heap.specs.Holding.{HoldsMore, HoldsOnceMore, LeavesParts, ReadsTo, replaced}
-use Rattle.shared_heap.specs.Shared.{Shared}
+use Rattle.shared_heap.specs.Shared.{Shared, with_gc}
 use Rattle.shared_heap.specs.Steps.{after_read}
 use Rattle.shared_heap.specs.Steps as shared
 use Rattle.shared_heap.proofs.Agreeing.{once_more}
@@ -162,7 +162,7 @@ module _ (l : LocalSet) (h : Shared) (c : Call) (can : CanMake l h c) where
     options = options;
   }
 
-  module _ (k : Shared) (to : ℕ) (r : Reply) (u : ℕ) (reads : ReadsTo c to) (thread : u ≡ l.thread) (more : HoldsMore h k u r) (read : k ≡ after_read h u r) (steps : (z : State) → Together l h z → shared.Stepped k z u c r) where
+  module _ (k : Shared) (to : ℕ) (r : Reply) (u : ℕ) (reads : ReadsTo c to) (thread : u ≡ l.thread) (more : HoldsMore h k u r) (read : k ≡ with_gc (after_read h u r) k.gc) (steps : (z : State) → Together l h z → shared.Stepped k z u c r) where
     -- what a read leaves to be received
     pub read_at : (z : State) → Together l h z → (a : State) × Step z (entry_of l.thread c r) a × Receives l k to r a
     read_at z t =

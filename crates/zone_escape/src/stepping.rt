@@ -32,7 +32,7 @@ use zone_model::{Call, Entry, Reply};
 pub fn may(_local: &Local, core: &Core, call: &Call) -> bool
     ensures { (z : State) → IsCoreOf core.now z → IsTrue result ↔ May z _local.now.thread call.now }
 {
-    let _ = &core.heap;
+    let _ = core.heap.cycle();
     match call {
         Call::Condemn | Call::Finalise | Call::Reclaim => false,
         _ => true,

@@ -1,5 +1,6 @@
 use Rattle.std.proofs.Common.{refl}
 use Rattle.zone_model.specs.declared.call.Call.TheVariants as call
+use Rattle.shared_heap.proofs.Collecting.{with_own_gc}
 use Rattle.zone_escape.proofs.Making.{runs, can_receive, makes_read}
 use Rattle.zone_escape.proofs.counts.take.Goals as goal
 
@@ -7,13 +8,13 @@ pub receive-requires-clause-called : goal.receive-requires-clause-called
 receive-requires-clause-called c =
     let the_call = call.Take c.args.to c.args.id in
     let e = c.in_ok-reply.ensures in
-    can_receive c.args.local.now c.args.heap.now the_call c.requires c.take_held.new.self c.args.to c.in_ok-reply.reply c.thread.result refl c.thread.ensures e.held e.value
+    can_receive c.args.local.now c.args.heap.now the_call c.requires c.take_held.new.self c.args.to c.in_ok-reply.reply c.thread.result refl c.thread.ensures e.held (with_own_gc _ _ e.value)
     (λ z t. e.step z c.args.to (runs c.args.local.now c.args.heap.now the_call c.requires c.thread.result c.thread.ensures z t))
 
 pub returns-clause-ok : goal.returns-clause-ok
 returns-clause-ok c =
     let the_call = call.Take c.args.to c.args.id in
     let e = c.in_ok-reply.ensures in
-    makes_read c.args.local.now c.args.heap.now the_call c.requires c.take_held.new.self c.args.to c.in_ok-reply.reply c.thread.result refl c.thread.ensures e.held e.value
+    makes_read c.args.local.now c.args.heap.now the_call c.requires c.take_held.new.self c.args.to c.in_ok-reply.reply c.thread.result refl c.thread.ensures e.held (with_own_gc _ _ e.value)
     (λ z t. e.step z c.args.to (runs c.args.local.now c.args.heap.now the_call c.requires c.thread.result c.thread.ensures z t))
     c.receive.new.local c.receive.new.heap c.receive.ensures.together c.receive.ensures.local c.receive.ensures.heap

@@ -8,7 +8,7 @@ use Rattle.zone_model.specs.Bare.{bare_reply}
 use Rattle.zone_model.specs.Escape.{with_escaped}
 use Rattle.shared_heap.specs.Shared.{Shared}
 use Rattle.shared_heap.specs.Steps as shared
-use Rattle.shared_heap.specs.Weak.{after_assign}
+use Rattle.shared_heap.specs.Weak.{after_assign, shown_in}
 use Rattle.local_set.specs.LocalSets.{LocalSet}
 use Rattle.zone_escape.proofs.Escaped.{has_escaped, is_too_much}
 use Rattle.zone_escape.proofs.Shown.{misused, made, running, held, known}
@@ -50,7 +50,8 @@ returns-clause-ok c =
     let the_call = call.SetWeak (loc.Root c.args.root) c.args.from in
     let can = c.requires in
     let rest = c.escape.ensures.rest in
-    let says : r ≡ reply.Block v = c.in-Ok.ensures.reply in
+    let now = shown_in g v in
+    let says : r ≡ reply.Block now = c.in-Ok.ensures.reply in
     let after = c.in-Ok.ensures.value ∙ ap (after_assign g (weak.Root c.args.root)) says in
     let same = ap (λ (s : LocalSet). s.thread) rest in
     let thread = c.thread.ensures ∙ same in
@@ -68,6 +69,6 @@ returns-clause-ok c =
       none = λ q n. elim n [ inl one ↦ e.value.none _ value q one | inr block ↦ block ];
       leaves = (e.value.shared _ value, tt);
       still = refl;
-      fine = λ w wrong. let no : reply.Block v ≡ reply.Misuse w = sym says ∙ wrong in cc (no);
+      fine = λ w wrong. let no : reply.Block now ≡ reply.Misuse w = sym says ∙ wrong in cc (no);
       stepped = subst (λ u. shared.Stepped k (with_escaped z e.need) u the_call r) thread (c.in-Ok.ensures.step (with_escaped z e.need) (loc.Root c.args.root) c.args.from runs e.shut refl (ap (λ u. z.registers u c.args.from) thread ∙ sym value));
     })

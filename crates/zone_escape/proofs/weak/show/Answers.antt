@@ -9,7 +9,7 @@ use Rattle.zone_model.specs.Bare.{bare_reply}
 use Rattle.zone_model.specs.Escape.{with_escaped}
 use Rattle.shared_heap.specs.Shared.{Shared}
 use Rattle.shared_heap.specs.Steps as shared
-use Rattle.shared_heap.specs.Weak.{after_assign}
+use Rattle.shared_heap.specs.Weak.{after_assign, shown_in}
 use Rattle.local_set.specs.LocalSets.{LocalSet}
 use Rattle.zone_escape.proofs.Escaped.{has_escaped, is_too_much}
 use Rattle.zone_escape.proofs.Shown.{misused, made, running, held, known}
@@ -59,13 +59,14 @@ returns-clause-ok c =
     let rest = c.escape.ensures.rest in
     let at = sym c.requires.holds in
     let is = c.register.ensures in
-    let says : r ≡ reply.Block v =
+    let now = shown_in g v in
+    let says : r ≡ reply.Block now =
     let z = can.together.0 in
     let t = can.together.1 in
     let block = sym (held l h the_call can z t c.args.into (Some id) at) in
     let e = has_escaped l m h g (Some id) v _ c.in_ok-escape.ensures.ok z t (known l h the_call can z t c.args.into (Some id) at) (known l h the_call can z t c.args.from _ is) c.if-not-branch.false in
     let three = sym (c.requires.right z t the_call c.args.into block (record { holder = refl; word = refl })) in
-    shows_value g z e.need l.thread c.args.into c.args.at c.args.from id v r e.together.heap.stands e.object.here block three c.in-Ok.ensures.reply
+    shows_value g z e.need l.thread c.args.into c.args.at c.args.from id now r e.together.heap.stands e.object.here block three c.in-Ok.ensures.reply
     in
     let after = c.in-Ok.ensures.value ∙ ap (after_assign g (weak.Word id c.args.at)) says in
     let same = ap (λ (s : LocalSet). s.thread) rest in
@@ -85,7 +86,7 @@ returns-clause-ok c =
       none = λ q n. elim n [ inl one ↦ e.value.none _ value q one | inr two ↦ e.object.none _ block q two ];
       leaves = (e.value.shared _ value, e.object.shared _ block);
       still = refl;
-      fine = λ w wrong. let no : reply.Block v ≡ reply.Misuse w = sym says ∙ wrong in cc (no);
+      fine = λ w wrong. let no : reply.Block now ≡ reply.Misuse w = sym says ∙ wrong in cc (no);
       stepped = subst (λ u. shared.Stepped k (with_escaped z e.need) u the_call r) thread (c.in-Ok.ensures.step (with_escaped z e.need) (loc.Word c.args.into c.args.at) c.args.from runs e.shut
           (ap (option_map (λ a. weak.Word a c.args.at)) (ap (λ u. z.registers u c.args.into) thread ∙ sym block)) (ap (λ u. z.registers u c.args.from) thread ∙ sym value));
     })

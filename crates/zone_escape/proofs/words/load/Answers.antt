@@ -2,6 +2,7 @@ use Rattle.std.proofs.Common.{refl}
 use Rattle.zone_model.specs.declared.call.Call.TheVariants as call
 use Rattle.local_set.specs.LocalSets.{part_in}
 use Rattle.zone_escape.proofs.Exposed.{holder_there}
+use Rattle.shared_heap.proofs.Collecting.{with_own_gc}
 use Rattle.zone_escape.proofs.Making.{runs, in_register, can_receive, makes_read}
 use Rattle.zone_escape.proofs.Stored.{not_within}
 use Rattle.zone_escape.proofs.words.load.Goals as goal
@@ -15,7 +16,7 @@ receive-requires-clause-called c =
     let h = c.args.heap.now in
     let the_call = call.Load c.args.to c.args.from c.args.at in
     let e = c.in_ok-reply.ensures in
-    can_receive l h the_call c.requires c.load.new.self c.args.to c.in_ok-reply.reply c.thread.result refl c.thread.ensures e.held e.value
+    can_receive l h the_call c.requires c.load.new.self c.args.to c.in_ok-reply.reply c.thread.result refl c.thread.ensures e.held (with_own_gc _ _ e.value)
     (λ z t. e.step z c.args.to c.args.from (runs l h the_call c.requires c.thread.result c.thread.ensures z t) (in_register l h the_call c.requires c.thread.result c.thread.ensures c.args.from c.register-holder.result c.register-holder.ensures z t))
 
 pub returns-clause-ok : goal.returns-clause-ok
@@ -24,6 +25,6 @@ returns-clause-ok c =
     let h = c.args.heap.now in
     let the_call = call.Load c.args.to c.args.from c.args.at in
     let e = c.in_ok-reply.ensures in
-    makes_read l h the_call c.requires c.load.new.self c.args.to c.in_ok-reply.reply c.thread.result refl c.thread.ensures e.held e.value
+    makes_read l h the_call c.requires c.load.new.self c.args.to c.in_ok-reply.reply c.thread.result refl c.thread.ensures e.held (with_own_gc _ _ e.value)
     (λ z t. e.step z c.args.to c.args.from (runs l h the_call c.requires c.thread.result c.thread.ensures z t) (in_register l h the_call c.requires c.thread.result c.thread.ensures c.args.from c.register-holder.result c.register-holder.ensures z t))
     c.receive.new.local c.receive.new.heap c.receive.ensures.together c.receive.ensures.local c.receive.ensures.heap
