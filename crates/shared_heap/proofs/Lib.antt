@@ -6,6 +6,8 @@ pub mod Sums
 pub mod Collecting
 pub mod Standing
 pub mod Escaping
+pub mod CycleSteps
+pub mod Finalising
 pub mod Stepping
 pub mod Holding
 pub mod Results

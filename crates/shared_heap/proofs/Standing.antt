@@ -64,7 +64,7 @@ one_less : (i j : ℕ) → (i == j) ≡ (suc i == suc j)
 one_less i j = grind (arith, nat_tests)
 
 -- a list after a write
-get_set : {X : Type 0} (xs : List X) (i j : ℕ) (v none : X) → i < length xs → get_or (slice_set xs i v) j none ≡ cond (i == j) v (get_or xs j none)
+pub get_set : {X : Type 0} (xs : List X) (i j : ℕ) (v none : X) → i < length xs → get_or (slice_set xs i v) j none ≡ cond (i == j) v (get_or xs j none)
 get_set [] i j v none h = absurd (omega arith)
 get_set (x ∷ xs) zero zero v none h = refl
 get_set (x ∷ xs) zero (suc j) v none h = ap (λ t. cond t v (get_or xs j none)) (unequal 0 (suc j) (λ e. omega arith))

@@ -13,6 +13,7 @@ use Rattle.zone_model.specs.declared.call.Call.TheVariants as call
 use Rattle.zone_model.specs.declared.entry.Reply.{Reply}
 use Rattle.zone_model.specs.declared.entry.Reply.TheVariants as reply
 use Rattle.zone_model.specs.Escape.{block_named}
+use Rattle.zone_model.specs.InRange.{InRange}
 use Rattle.zone_model.specs.Maps.{total}
 use Rattle.zone_model.specs.Part.{Part, part_of}
 use Rattle.zone_model.specs.Reach.{WordEdge}
@@ -53,11 +54,12 @@ is_off off t q = list_any (λ (pair : ℕ × BlockId). (pair.0 == t) && same_id 
 abbrev pub HoldsAgree : Shared → State → Type 0
 HoldsAgree h z = (t : ℕ) (q : BlockId) → IsTrue (is_escaped z q) → held h t q ≡ holds_of (part_of z t) q
 
--- the heap stands for the sound state, knows how often each block is held in it, and the thread hasn't ended
+-- the heap stands for the sound state, in which registers and roots are in range, and knows how often each block is held in it; and the thread hasn't ended
 pub record Serves (h : Shared) (z : State) (t : ℕ) : Type 0 where
   pub stands : Stands h z
   pub holds : HoldsAgree h z
   pub sound : Sound z
+  pub range : InRange z
   pub running : z.ended t ≡ false
 
 -- the same, but for these threads and blocks

@@ -4,11 +4,10 @@ ghost use Rattle.gen_marker.specs.Progress.{Ends};
 ghost use Rattle.zone_model.specs.declared.call.Call.TheVariants as call;
 ghost use Rattle.zone_model.specs.declared.entry.Reply.TheVariants as reply;
 ghost use Rattle.zone_model.specs.Phases.{left_in};
-ghost use Rattle.zone_model.specs.Sound.{Sound};
 ghost use Rattle.zone_model.specs.State.{State, Cycle};
 ghost use Rattle.shared_heap.specs.Collector.{Collecting, no_collector, shade_in};
 ghost use Rattle.shared_heap.specs.Cycles.{IsOpenOf, IsMarking, IsSettling, AfterBegin, AfterCondemn, AfterFinalise, AfterReclaim, Darkens, black_in, one_lent};
-ghost use Rattle.shared_heap.specs.Holding.{HoldsAgree, Serves};
+ghost use Rattle.shared_heap.specs.Holding.{Serves};
 ghost use Rattle.shared_heap.specs.Shared.{finalisers_left, is_busy, unfinalised_by, with_gc};
 ghost use Rattle.shared_heap.specs.Stands.{Stands};
 ghost use Rattle.shared_heap.specs.Steps.{Stepped};
@@ -53,7 +52,7 @@ impl Heap {
         ensures ticks { steps.new + black_in self.old ≡ steps.old + black_in self.new }
         ensures within { steps.new ≤ steps.old + budget }
         ensures ends { IfSome self.new.gc.cycle (λ g. Ends result g.start (shade_in g) (steps.new ≡ steps.old + budget)) }
-        ensures stands { (z : State) → Stands self.old z → HoldsAgree self.old z → Sound z → Stands self.new z }
+        ensures stands { (z : State) → Serves self.old z t → Stands self.new z }
     {
         self.idle();
         unreachable!()
