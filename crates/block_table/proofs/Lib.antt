@@ -1,0 +1,12 @@
+mod Counts
+mod Filtered
+pub mod Tables
+pub mod Found
+pub mod Edits
+pub mod Tabled
+pub mod Ageing
+pub mod Somes
+pub mod Words
+pub mod Positions
+pub mod Comings
+mod Results

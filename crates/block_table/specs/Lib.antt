@@ -1,0 +1,5 @@
+pub mod Holds
+pub mod Stored
+pub mod Places
+pub mod Table
+pub mod Codes
