@@ -1,5 +1,5 @@
 //! The values of all objects.
-ghost use Rattle.std.specs.Prelude.{◌≡◌, ◌+◌, ◌-◌, ◌<◌, ◌≤◌, ℕ, None, Some, is_some, slice_get, IsSome, IsOk, IfOk, OnOk, OnErr};
+ghost use Rattle.std.specs.Prelude.{◌≡◌, ◌+◌, ◌-◌, ◌<◌, ◌≤◌, ◌^◌, ℕ, None, Some, is_some, slice_get, IsSome, IfSome, IsOk, IfOk, OnOk, OnErr};
 ghost use Rattle.std.specs.FinMap as map;
 
 use crate::pairs::Pairs;
@@ -68,11 +68,12 @@ impl Assocs {
     }
 
     /// The object's n-th pair in ascending keys, from 0; None exactly past the last. O(1).
-    pub fn nth_of(&self, object: BlockId, n: u32) -> Option<(Key, BlockId)>
-        ensures { result ≡ slice_get (pairs_of self.now.pairs object) n }
+    pub fn nth_of(&self, object: BlockId, n: usize) -> Option<(Key, BlockId)>
+        ensures value { result ≡ slice_get (pairs_of self.now.pairs object) n }
+        ensures within { IfSome result (λ _. n < 2 ^ 63) }
     {
         match self.lists.get(&object) {
-            Some(list) => list.nth(n as usize),
+            Some(list) => list.nth(n),
             None => None,
         }
     }

@@ -1,5 +1,5 @@
 //! The values of one object.
-ghost use Rattle.std.specs.Prelude.{◌≡◌, ◌+◌, ◌-◌, ◌<◌, ◌≤◌, ℕ, None, length, slice_get, OnOk, OnErr, IfOk, IsOk};
+ghost use Rattle.std.specs.Prelude.{◌≡◌, ◌+◌, ◌-◌, ◌<◌, ◌≤◌, ◌^◌, ℕ, None, length, slice_get, IfSome, OnOk, OnErr, IfOk, IsOk};
 ghost use Rattle.std.specs.FinMap as map;
 ghost use Rattle.std.specs.Prelude.{T};
 ghost use Rattle.std.specs.Ordering.{nat_cmp};
@@ -62,7 +62,8 @@ impl Pairs {
 
     /// The n-th pair in ascending keys, from 0. O(1).
     pub fn nth(&self, n: usize) -> Option<(Key, BlockId)>
-        ensures { result ≡ nth_pair self.now n }
+        ensures value { result ≡ nth_pair self.now n }
+        ensures within { IfSome result (λ _. n < 2 ^ 63) }
     {
         if n >= self.list.len() {
             return None;

@@ -41,8 +41,8 @@ fn fills(assocs: &mut Assocs, object: BlockId) -> bool {
 }
 
 fn is_ascending(assocs: &Assocs, object: BlockId) -> bool {
-    for n in 0..256_u32 {
-        if assocs.nth_of(object, n) != Some((Key(n as u8), block(n))) {
+    for n in 0..256_usize {
+        if assocs.nth_of(object, n) != Some((Key(n as u8), block(n as u32))) {
             return false;
         }
     }

@@ -1,5 +1,5 @@
 //! A graph of numbered blocks in memory, for tests.
-ghost use Rattle.std.specs.Prelude.{◌≡◌, ◌<◌, ◌^◌, drop, length, true};
+ghost use Rattle.std.specs.Prelude.{◌≡◌, ◌<◌, ◌^◌, drop, length, slice_get, true};
 ghost use Rattle.quantum_space.specs.Shapes.{IsNext};
 ghost use Rattle.gen_marker.specs.Closure.{Stored};
 ghost use Rattle.finalise_pass.specs.SmallGraphs.{numbered, small_shape, small_shades};
@@ -38,6 +38,17 @@ impl SmallGraph {
         ensures { (⟦<SmallGraph as Graph>⟧.shape self.new).blocks ≡ (⟦<SmallGraph as Graph>⟧.shape self.old).blocks }
     {
         self.anchors = anchors;
+    }
+
+    /// The block at a place of all of them.
+    fn nth_of_all(&self, n: u64) -> Option<BlockId>
+        ensures { result ≡ slice_get (⟦<SmallGraph as Graph>⟧.shape self.now).blocks n }
+    {
+        if n < self.block_count() as u64 {
+            self.block(n as u32)
+        } else {
+            None
+        }
     }
 
     /// Every block is remembered now.
@@ -100,17 +111,17 @@ impl Graph for SmallGraph {
         next_in(self.anchors.as_slice(), place)
     }
 
-    fn remembered_count(&self) -> u32 {
+    fn remembered_count(&self) -> u64 {
         if self.all_remembered {
-            self.shades.len() as u32
+            self.shades.len() as u64
         } else {
-            self.some_remembered.len() as u32
+            self.some_remembered.len() as u64
         }
     }
 
-    fn remembered(&self, n: u32) -> Option<BlockId> {
+    fn remembered(&self, n: u64) -> Option<BlockId> {
         if self.all_remembered {
-            self.block(n)
+            self.nth_of_all(n)
         } else {
             self.some_remembered.get(n as usize).copied()
         }

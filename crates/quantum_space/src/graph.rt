@@ -63,11 +63,11 @@ pub trait Graph {
         ensures { IsNext (shape self.now).anchors_from place result };
 
     /// How many blocks are remembered.
-    fn remembered_count(&self) -> u32
+    fn remembered_count(&self) -> u64
         ensures { result ≡ length (shape self.now).remembered };
 
     /// The n-th remembered block, from 0.
-    fn remembered(&self, n: u32) -> Option<BlockId>
+    fn remembered(&self, n: u64) -> Option<BlockId>
         ensures { result ≡ slice_get (shape self.now).remembered n };
 
     /// The block at the end of the n-th edge that leads from a block, from 0.

@@ -1,5 +1,5 @@
 //! Positive counts by block.
-ghost use Rattle.std.specs.Prelude.{◌≡◌, ◌+◌, ◌-◌, ◌<◌, ◌≤◌, ℕ, [], length, slice_get, max, OnOk, OnErr, IfOk, IfErr};
+ghost use Rattle.std.specs.Prelude.{◌≡◌, ◌+◌, ◌-◌, ◌<◌, ◌≤◌, ◌^◌, ℕ, [], length, slice_get, max, OnOk, OnErr, IfOk, IfErr};
 ghost use Rattle.std.specs.FinMap as map;
 ghost use Rattle.retain_table.specs.Counted.{nearer_of};
 
@@ -137,6 +137,7 @@ impl Counts {
     pub fn len(&self) -> usize
         ensures value { result ≡ map.len self.now.counts }
         ensures positions { result ≡ length self.now.order }
+        ensures small { result < 2 ^ 63 }
         ensures order { IsOrder self.now.counts self.now.order }
         ensures positive { IsPositive self.now.counts }
     {
