@@ -1,16 +1,16 @@
 -- Lists of threads with their counts, seen as finite maps
-use Rattle.std.proofs.Common.{◌≡◌, ◌≢◌, ℕ, ◌==◌, ◌+◌, ◌<◌, ◌≤◌, nat_lt, Bool, true, false, not, cond, List, [], ◌∷◌, ◌++◌, length, get_or, slice_set, take, drop, length-set, Option, Some, None, filter, refl, sym, ap, ◌∙◌, subst, arith, zero, suc}
+use Rattle.std.proofs.Common.{◌≡◌, ◌≢◌, ℕ, ◌==◌, ◌+◌, ◌<◌, ◌≤◌, nat_lt, Bool, true, false, not, cond, List, [], ◌∷◌, ◌++◌, length, get_or, slice_set, take, drop, length-set, Option, Some, None, filter, map, ◌||◌, refl, sym, ap, ◌∙◌, subst, arith, zero, suc}
 use Rattle.std.proofs.lemmas.Bool.Decides.{nat_tests}
 use Rattle.std.proofs.lemmas.Grind.{common_steps}
 use Rattle.std.specs.Option.{unwrap_or}
 use Rattle.std.proofs.lemmas.List.{append-nil}
 use Rattle.std.proofs.Math.Seq.{take-length, drop-length}
-use Rattle.std.specs.List.{position_or_len, position, refill}
+use Rattle.std.specs.List.{list_any, position_or_len, position, refill}
 use Rattle.std.specs.Ordering.{eq_by_cmp, is_eq, nat_cmp}
 use Rattle.std.specs.Cmp.{nat_cmp_total, eq_by_cmp_equiv}
-use Rattle.std.specs.FinMap.{nat_cmp-IsAntisymmetric, empty, get, insert, remove, from_entries, get-from_entries, get-insert, get-remove, get-empty, same_map, len, len-empty, empty_of_len}
+use Rattle.std.specs.FinMap.{nat_cmp-IsAntisymmetric, empty, get, insert, remove, from_entries, get-from_entries, get-insert, get-remove, get-empty, same_map, entries, get-entries, len-entries, len-empty}
 use Rattle.std.specs.FinMap.Entries.{find}
-use Rattle.block_table.specs.Holds.{Holds, times, with_times}
+use Rattle.block_table.specs.Holds.{ArePositive, Holds, is_held_by, times, with_times}
 
 tested : (q k : ℕ) → eq_by_cmp nat_cmp q k ≡ (q == k)
 tested q k = grind (arith, nat_tests, common_steps)
@@ -159,11 +159,56 @@ so_many_times xs t n is = ap (λ (o : Option ℕ). unwrap_or o 0) (get-from_entr
 pub no_times : (xs : List (ℕ × ℕ)) (t : ℕ) → find nat_cmp t xs ≡ None → times (from_entries xs) t ≡ 0
 no_times xs t is = ap (λ (o : Option ℕ). unwrap_or o 0) (get-from_entries nat_cmp_total xs t ∙ is)
 
--- some thread is listed where the map has an entry
-pub held_listed : (xs : List (ℕ × ℕ)) → not (length xs == 0) ≡ nat_lt 0 (len (from_entries {R = nat_cmp} xs))
-held_listed [] = ap (λ n. nat_lt 0 n) (sym (len-empty nat_cmp ℕ))
-held_listed (x ∷ xs) = go (len (from_entries {R = nat_cmp} (x ∷ xs))) refl
+-- what isn't 0 is positive
+pub above : (n : ℕ) → n ≢ 0 → 0 < n
+above zero h = absurd (h refl)
+above (suc n) h = omega arith
+
+-- positive numbers stay so
+pub positive_set : (xs : List (ℕ × ℕ)) (p : ℕ) (x : ℕ × ℕ) → 0 < x.1 → ArePositive xs → ArePositive (slice_set xs p x)
+positive_set [] p x h a = tt
+positive_set (y ∷ xs) zero x h a = (h, a.1)
+positive_set (y ∷ xs) (suc p) x h a = (a.0, positive_set xs p x h a.1)
+
+pub positive_push : (xs : List (ℕ × ℕ)) (x : ℕ × ℕ) → 0 < x.1 → ArePositive xs → ArePositive (xs ++ x ∷ [])
+positive_push [] x h a = (h, tt)
+positive_push (y ∷ xs) x h a = (a.0, positive_push xs x h a.1)
+
+pub positive_kept : (t : ℕ) (xs : List (ℕ × ℕ)) → ArePositive xs → ArePositive (filter (λ h. not (h.0 == t)) xs)
+positive_kept t [] a = tt
+positive_kept t (y ∷ xs) a = by (not (y.0 == t)) (positive_kept t xs a.1)
   where
-    go : (n : ℕ) → len (from_entries {R = nat_cmp} (x ∷ xs)) ≡ n → not (length (x ∷ xs) == 0) ≡ nat_lt 0 n
-    go zero e = let none = none_listed (x ∷ xs) (empty_of_len (from_entries {R = nat_cmp} (x ∷ xs)) e) in absurd (omega (arith, none))
-    go (suc n) e = grind (arith, nat_tests, common_steps)
+    by : (b : Bool) → ArePositive (filter (λ h. not (h.0 == t)) xs) → ArePositive (cond b (y ∷ filter (λ h. not (h.0 == t)) xs) (filter (λ h. not (h.0 == t)) xs))
+    by true rest = (a.0, rest)
+    by false rest = rest
+
+-- some thread is listed where some number is positive
+some_positive : (es : List (ℕ × ℕ)) (t n : ℕ) → find nat_cmp t es ≡ Some n → 0 < n → list_any (λ k. nat_lt 0 k) (map (λ (e : ℕ × ℕ). e.1) es) ≡ true
+some_positive [] t n e h = cc
+some_positive (x ∷ es) t n e h = by (is_eq (nat_cmp t x.0)) e (some_positive es t n)
+  where
+    by : (b : Bool) → cond b (Some x.1) (find nat_cmp t es) ≡ Some n → (find nat_cmp t es ≡ Some n → 0 < n → list_any (λ k. nat_lt 0 k) (map (λ (e : ℕ × ℕ). e.1) es) ≡ true) → (nat_lt 0 x.1 || list_any (λ k. nat_lt 0 k) (map (λ (e : ℕ × ℕ). e.1) es)) ≡ true
+    by true f rest = let same : x.1 ≡ n = ap (λ (o : Option ℕ). unwrap_or o x.1) f in let p : nat_lt 0 x.1 ≡ true = grind (arith, nat_tests, same, h) in ap (λ b. b || list_any (λ k. nat_lt 0 k) (map (λ (e : ℕ × ℕ). e.1) es)) p
+    by false f rest = ap (λ b. nat_lt 0 x.1 || b) (rest f h) ∙ or_true (nat_lt 0 x.1)
+      where
+        or_true : (b : Bool) → (b || true) ≡ true
+        or_true true = refl
+        or_true false = refl
+
+pub held_listed : (xs : List (ℕ × ℕ)) → ArePositive xs → not (length xs == 0) ≡ is_held_by (from_entries {R = nat_cmp} xs)
+held_listed [] a = sym (nothing (entries (from_entries {R = nat_cmp} [])) (sym (len-entries (from_entries {R = nat_cmp} [])) ∙ len-empty nat_cmp ℕ))
+  where
+    nothing : (es : List (ℕ × ℕ)) → length es ≡ 0 → list_any (λ k. nat_lt 0 k) (map (λ (e : ℕ × ℕ). e.1) es) ≡ false
+    nothing [] h = refl
+    nothing (e ∷ es) h = absurd (omega (arith, h))
+held_listed (x ∷ xs) a =
+    let m = from_entries {R = nat_cmp} (x ∷ xs) in
+    let here : find nat_cmp x.0 (x ∷ xs) ≡ Some x.1 = ap (λ b. cond b (Some x.1) (find nat_cmp x.0 xs)) (tied x.0 x.0 ∙ itself x.0) in
+    let got : find nat_cmp x.0 (entries m) ≡ Some x.1 = sym (get-entries m x.0) ∙ get-from_entries nat_cmp_total (x ∷ xs) x.0 ∙ here in
+    more (length xs) ∙ sym (some_positive (entries m) x.0 x.1 got a.0)
+  where
+    itself : (n : ℕ) → (n == n) ≡ true
+    itself n = grind (arith, nat_tests)
+
+    more : (n : ℕ) → not (suc n == 0) ≡ true
+    more n = grind (arith, nat_tests, common_steps)

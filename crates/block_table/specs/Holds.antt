@@ -1,7 +1,8 @@
 -- How often threads hold a block
-use Rattle.std.specs.Prelude.{ℕ, nat_lt, Bool, Option, Some, None, unwrap_or}
+use Rattle.std.specs.Prelude.{ℕ, ◌<◌, nat_lt, Bool, List, [], ◌∷◌, Option, Some, None, unwrap_or}
 use Rattle.std.specs.Ordering.{nat_cmp}
-use Rattle.std.specs.FinMap.{FinMap, empty, get, len}
+use Rattle.std.specs.FinMap.{FinMap, empty, get, values}
+use Rattle.std.specs.List.{list_any}
 use Rattle.az_base.specs.WithValue.{with_value}
 use Rattle.zone_model.specs.State.{positive_count}
 
@@ -24,4 +25,9 @@ held_once (Some t) = with_times empty t 1
 
 -- a thread holds the block
 abbrev pub is_held_by : Holds → Bool
-is_held_by m = nat_lt 0 (len m)
+is_held_by m = list_any (λ n. nat_lt 0 n) (values m)
+
+-- each number of the list is positive
+abbrev pub ArePositive : List (ℕ × ℕ) → Type 0
+ArePositive [] = Unit {0}
+ArePositive (x ∷ xs) = (0 < x.1) × ArePositive xs

@@ -28,7 +28,7 @@ newly layout words actions = record { layout = layout; words = words; actions = 
 
 -- the block after one Reclaim more
 abbrev pub older : HeapBlock → HeapBlock
-older k = record k { age = min 3 (k.age + 1) }
+older k = record k { age = min (k.age + 1) 3 }
 
 -- an escaped block, who holds it, and what a collection notes of it
 pub record Row : Type 0 where

@@ -18,7 +18,7 @@ impl Model for Holders {
     ghost use Rattle.std.specs.Prelude.{◌≤◌};
     ghost use Rattle.std.specs.FinMap as map;
     ghost use Rattle.std.specs.Coded.{coded_ℕ};
-    ghost use Rattle.block_table.specs.Holds.{Holds};
+    ghost use Rattle.block_table.specs.Holds.{ArePositive, Holds};
 
     ghost Value = { Holds };
 
@@ -26,7 +26,7 @@ impl Model for Holders {
 
     ghost view = { λ h. map.from_entries h.counts.items };
 
-    ghost invariant = { λ h. 1 ≤ h.counts.capacity };
+    ghost invariant = { λ h. (1 ≤ h.counts.capacity) × ArePositive h.counts.items };
 }
 
 impl Holders {

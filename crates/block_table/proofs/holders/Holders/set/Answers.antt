@@ -4,7 +4,7 @@ use Rattle.std.specs.Cmp.{nat_cmp_total}
 use Rattle.std.specs.FinMap.{from_entries, from_entries_push, nat_cmp-IsAntisymmetric}
 use Rattle.std.specs.FinMap.Entries.{find}
 use Rattle.block_table.specs.Holds.{Holds, times, with_times}
-use Rattle.block_table.proofs.Counts.{place_found, place_none, map_set, map_without, filtered, positive, none_listed, refilled, no_times}
+use Rattle.block_table.proofs.Counts.{place_found, place_none, map_set, map_without, filtered, positive, none_listed, refilled, no_times, above, positive_kept, positive_set, positive_push}
 use Rattle.block_table.proofs.holders.Holders.set.Goals.{in-Ok, in-Err}
 use Rattle.block_table.proofs.holders.Holders.set.Goals as goal
 
@@ -39,7 +39,28 @@ returns-after-push-clause-sure c h = elim c.match-push.branch [
         | inl e ↦ absurd (c.if-n-eq0.false e)
         | inr k ↦ elim k [
           | inl l ↦ absurd (omega arith)
-          | inr e ↦ let few = none_listed c.self.inside.counts.items (c.self.view_is ∙ e) in let ok = w.in-Err.ensures.succeeds (omega (arith, c.self.invariant)) in cc
+          | inr e ↦ let few = none_listed c.self.inside.counts.items (c.self.view_is ∙ e) in let ok = w.in-Err.ensures.succeeds (omega (arith, c.self.invariant.0)) in cc
         ]
       ]
 ]
+
+pub invariant_of-self : goal.invariant_of-self
+invariant_of-self c = (
+  (let e = c.drop_thread.ensures.capacity in let i = c.self.invariant.0 in omega (arith, e, i)),
+  rw c.drop_thread.ensures.items (positive_kept c.get-thread.result c.self.inside.counts.items c.self.invariant.1),
+)
+
+pub invariant_of-self-in-Some : goal.invariant_of-self-in-Some
+invariant_of-self-in-Some c = (
+  c.self.invariant.0,
+  rw (c.as_mut_slice.ensures.value, refilled c.self.inside.counts.items c.in-Some.place (c.get-thread.result, c.args.n)) (positive_set c.self.inside.counts.items c.in-Some.place (c.get-thread.result, c.args.n) (above c.args.n c.if-n-eq0.false) c.self.invariant.1),
+)
+
+pub invariant_of-self-in-None : goal.invariant_of-self-in-None
+invariant_of-self-in-None c = (
+  (let e = c.push.ensures.capacity in let i = c.self.invariant.0 in omega (arith, e, i)),
+  elim c.match-push.branch [
+    | in-Ok w ↦ rw w.in-Ok.ensures.ok (positive_push c.self.inside.counts.items (c.get-thread.result, c.args.n) (above c.args.n c.if-n-eq0.false) c.self.invariant.1)
+    | in-Err w ↦ rw w.in-Err.ensures.err c.self.invariant.1
+  ],
+)
