@@ -1,0 +1,8 @@
+pub mod Edited
+pub mod Entries
+pub mod Places
+pub mod Fronts
+pub mod Showing
+pub mod Changing
+pub mod Walking
+pub mod Finishing

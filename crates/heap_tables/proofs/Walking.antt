@@ -1,0 +1,142 @@
+-- What a walk reads and changes by position
+use Rattle.std.proofs.Common.{◌≡◌, ℕ, zero, suc, ◌+◌, ◌-◌, ◌<◌, ◌≤◌, ◌++◌, ◌&&◌, Bool, true, false, cond, List, [], ◌∷◌, Option, Some, None, MatchOption, filter, length, take, drop, slice_get, is_some, IsSome, refl, sym, ap, ◌∙◌, subst, arith}
+use Rattle.std.specs.Option.{option_map_or, option_to_list}
+use Rattle.std.specs.FinMap.{FinMap, insert}
+use Rattle.az_base.specs.declared.action.Mode.{Mode}
+use Rattle.az_base.specs.declared.block_id.BlockId.{BlockId}
+use Rattle.az_base.specs.Ids.{id_cmp}
+use Rattle.block_table.specs.Places.{PlaceOf}
+use Rattle.block_table.specs.Table.{Table, shades_in}
+use Rattle.quantum_space.specs.declared.shade.Shade.{Shade}
+use Rattle.quantum_space.specs.declared.shade.Shade.TheVariants as shade
+use Rattle.quantum_space.specs.Shapes.{Has, Visits, WithShade, is_left_white, is_taken, is_unmarked}
+use Rattle.heap_tables.specs.Graphs.{graph_of, shades_of}
+use Rattle.heap_tables.specs.declared.tables.Tables.{Tables}
+use Rattle.heap_tables.proofs.Fronts.{take_has, has_take, shaded_one}
+
+-- what stands in a front
+pub front_get : (xs : List BlockId) (b n : ℕ) (id : BlockId) → Some id ≡ slice_get (take b xs) n → slice_get xs n ≡ Some id
+front_get [] zero n id e = cc
+front_get [] (suc b) n id e = cc
+front_get (x ∷ xs) zero n id e = cc
+front_get (x ∷ xs) (suc b) zero id e = sym e
+front_get (x ∷ xs) (suc b) (suc n) id e = front_get xs b n id e
+
+pub get_front : (xs : List BlockId) (b n : ℕ) → n < b → slice_get (take b xs) n ≡ slice_get xs n
+get_front [] zero n h = refl
+get_front [] (suc b) n h = refl
+get_front (x ∷ xs) zero n h = absurd (omega (arith, h))
+get_front (x ∷ xs) (suc b) zero h = refl
+get_front (x ∷ xs) (suc b) (suc n) h = get_front xs b n (omega (arith, h))
+
+pub past_front : (xs : List BlockId) (b n : ℕ) → b ≤ n → slice_get (take b xs) n ≡ None
+past_front [] zero n h = refl
+past_front [] (suc b) n h = refl
+past_front (x ∷ xs) zero n h = refl
+past_front (x ∷ xs) (suc b) zero h = absurd (omega (arith, h))
+past_front (x ∷ xs) (suc b) (suc n) h = past_front xs b n (omega (arith, h))
+
+-- what stands in two lists, one after the other
+pub get_first : (xs ys : List BlockId) (n : ℕ) (x : BlockId) → slice_get xs n ≡ Some x → slice_get (xs ++ ys) n ≡ Some x
+get_first [] ys n x e = cc
+get_first (y ∷ xs) ys zero x e = e
+get_first (y ∷ xs) ys (suc n) x e = get_first xs ys n x e
+
+pub get_second : (xs ys : List BlockId) (n k : ℕ) → n ≡ length xs + k → slice_get (xs ++ ys) n ≡ slice_get ys k
+get_second [] ys n k e = let same : n ≡ k = omega (arith, e) in ap (slice_get ys) same
+get_second (x ∷ xs) ys zero k e = absurd (omega (arith, e))
+get_second (x ∷ xs) ys (suc n) k e = get_second xs ys n k (omega (arith, e))
+
+pub get_behind : (xs : List BlockId) (b k : ℕ) → slice_get (drop b xs) k ≡ slice_get xs (b + k)
+get_behind xs zero k = let same : zero + k ≡ k = omega arith in ap (slice_get xs) (sym same)
+get_behind [] (suc b) k = refl
+get_behind (x ∷ xs) (suc b) k = let same : suc b + k ≡ suc (b + k) = omega arith in get_behind xs b k ∙ ap (slice_get (x ∷ xs)) (sym same)
+
+pub none_behind : (xs : List BlockId) (n : ℕ) → length xs ≤ n → slice_get xs n ≡ None
+none_behind [] n h = refl
+none_behind (x ∷ xs) zero h = absurd (omega (arith, h))
+none_behind (x ∷ xs) (suc n) h = none_behind xs n (omega (arith, h))
+
+pub long_behind : (xs : List BlockId) (b : ℕ) → length (drop b xs) ≡ length xs - b
+long_behind [] zero = omega arith
+long_behind [] (suc b) = omega arith
+long_behind (x ∷ xs) zero = omega arith
+long_behind (x ∷ xs) (suc b) = let r = long_behind xs b in omega (arith, r)
+
+pub long_both : (xs ys : List BlockId) → length (xs ++ ys) ≡ length xs + length ys
+long_both [] ys = omega arith
+long_both (x ∷ xs) ys = let r = long_both xs ys in omega (arith, r)
+
+-- the remembered blocks: the cards, and then what came since
+pub remembered_since : (cards order : List BlockId) (b n k : ℕ) → n ≡ length cards + k → slice_get (cards ++ drop b order) n ≡ slice_get order (b + k)
+remembered_since cards order b n k e = get_second cards (drop b order) n k e ∙ get_behind order b k
+
+-- what isn't there at Begin isn't visited
+pub not_visited : (m : Mode) (t : Tables) (id : BlockId) → ¬ Has (take t.blocks.began t.blocks.order) id → Visits m (graph_of t) id false (shades_of t) (shades_of t)
+not_visited m t id absent = record { greyed = λ e. cc; same = λ e q. refl; passed = λ e h. absurd (absent h) }
+
+pub behind_front : (t : Tables) (id : BlockId) (n : ℕ) → PlaceOf t.blocks.order id (Some n) → t.blocks.began ≤ n → ¬ Has (take t.blocks.began t.blocks.order) id
+behind_front t id n at past h =
+    let k = has_take t.blocks.order t.blocks.began id h in
+    let same : k.0 ≡ n = at.1 k.0 k.2 in
+    omega (arith, same, k.1, past)
+
+-- a block at a position
+at_position : (m : Mode) (t : Tables) (id : BlockId) (n : ℕ) (a : Bool) → slice_get t.blocks.order n ≡ Some id → a ≡ option_map_or (is_left_white m (graph_of t) (shades_of t)) (slice_get t.blocks.order n) false → a ≡ is_left_white m (graph_of t) (shades_of t) id
+at_position m t id n a at is = is ∙ ap (λ o. option_map_or (is_left_white m (graph_of t) (shades_of t)) o false) at
+
+both : (a b : Bool) → (a && b) ≡ true → (a ≡ true) × (b ≡ true)
+both true b e = (refl, e)
+both false b e = cc
+
+is_white : (s : Shade) → is_unmarked s ≡ true → s ≡ shade.White
+is_white shade.White e = refl
+is_white shade.Grey e = cc
+is_white shade.Black e = cc
+
+pub passed_by : (m : Mode) (t : Tables) (id : BlockId) (n : ℕ) → slice_get t.blocks.order n ≡ Some id → false ≡ option_map_or (is_left_white m (graph_of t) (shades_of t)) (slice_get t.blocks.order n) false
+    → Visits m (graph_of t) id false (shades_of t) (shades_of t)
+passed_by m t id n at is = record { greyed = λ e. cc; same = λ e q. refl; passed = λ e h taken white. conflict (shades_of t id) (is_taken m (graph_of t) id) white taken (at_position m t id n false at is) }
+  where
+    conflict : (s : Shade) (k : Bool) → s ≡ shade.White → k ≡ true → false ≡ (is_unmarked s && k) → ⊥
+    conflict s k w e f = let marked : (is_unmarked s && k) ≡ true = ap (λ s. is_unmarked s && k) w ∙ e in let no : false ≡ true = f ∙ marked in cc
+
+pub shaded_at : (t : Table) (n : ℕ) (id : BlockId) (s : Shade) (sh : FinMap id_cmp Shade) → slice_get t.order n ≡ Some id → sh ≡ option_map_or (λ id. insert t.shades id s) (slice_get t.order n) t.shades → WithShade (shades_in t.shades) id s (shades_in sh)
+shaded_at t n id s sh at is = λ q. ap (λ x. shades_in x q) (is ∙ ap (λ o. option_map_or (λ id. insert t.shades id s) o t.shades) at) ∙ shaded_one t.shades id s q
+
+pub visited : (m : Mode) (t : Tables) (id : BlockId) (n : ℕ) (sh : FinMap id_cmp Shade) → slice_get t.blocks.order n ≡ Some id → n < t.blocks.began → true ≡ option_map_or (is_left_white m (graph_of t) (shades_of t)) (slice_get t.blocks.order n) false
+    → sh ≡ option_map_or (λ id. insert t.blocks.shades id shade.Grey) (slice_get t.blocks.order n) t.blocks.shades → Visits m (graph_of t) id true (shades_of t) (shades_in sh)
+visited m t id n sh at within is made =
+    let one = both (is_unmarked (shades_of t id)) (is_taken m (graph_of t) id) (sym (at_position m t id n true at is)) in
+    record {
+      greyed = λ e. (take_has t.blocks.order t.blocks.began n id at within, one.1, is_white (shades_of t id) one.0, shaded_at t.blocks n id shade.Grey sh at made);
+      same = λ e. cc;
+      passed = λ e. cc;
+    }
+
+-- one position of the blocks at Begin gets a shade
+pub nth_shaded : (t : Tables) (n : ℕ) (s : Shade) (b : Table) → n < t.blocks.began → b ≡ record t.blocks { shades = option_map_or (λ id. insert t.blocks.shades id s) (slice_get t.blocks.order n) t.blocks.shades }
+    → MatchOption (slice_get (take t.blocks.began t.blocks.order) n) ((let new : Tables = record t { blocks = b } in new) ≡ t) (λ id. WithShade (shades_of t) id s (shades_in b.shades))
+nth_shaded t n s b within is = subst (λ o. MatchOption o ((let new : Tables = record t { blocks = b } in new) ≡ t) (λ id. WithShade (shades_of t) id s (shades_in b.shades))) (sym (get_front t.blocks.order t.blocks.began n within)) (go (slice_get t.blocks.order n) refl)
+  where
+    go : (o : Option BlockId) → slice_get t.blocks.order n ≡ o → MatchOption o ((let new : Tables = record t { blocks = b } in new) ≡ t) (λ id. WithShade (shades_of t) id s (shades_in b.shades))
+    go None e = ap (λ (b : Table). let new : Tables = record t { blocks = b } in new) (is ∙ ap (λ o. let y : Table = record t.blocks { shades = option_map_or (λ id. insert t.blocks.shades id s) o t.blocks.shades } in y) e)
+    go (Some id) e = shaded_at t.blocks n id s b.shades e (ap (λ (b : Table). b.shades) is)
+
+pub past_shaded : (t : Tables) (n : ℕ) (P : BlockId → Type 0) → t.blocks.began ≤ n → MatchOption (slice_get (take t.blocks.began t.blocks.order) n) (t ≡ t) P
+past_shaded t n P past = subst (λ o. MatchOption o (t ≡ t) P) (sym (past_front t.blocks.order t.blocks.began n past)) refl
+
+-- a white block at a position that the mode takes
+pub one_left : (p : BlockId → Bool) (o : Option BlockId) (id : BlockId) (a : Bool) → Some id ≡ o → a ≡ p id → option_to_list (cond a (Some id) None) ≡ filter p (option_to_list o)
+one_left p o id a at is = ap (λ b. option_to_list (cond b (Some id) None)) is ∙ by (p id) refl ∙ ap (λ o. filter p (option_to_list o)) at
+  where
+    by : (b : Bool) → p id ≡ b → option_to_list (cond b (Some id) None) ≡ filter p (id ∷ [])
+    by true e = sym (ap (λ b. cond b (id ∷ []) []) e)
+    by false e = sym (ap (λ b. cond b (id ∷ []) []) e)
+
+pub left_told : (m : Mode) (t : Tables) (id : BlockId) (n : ℕ) (a : Bool) → Some id ≡ slice_get (take t.blocks.began t.blocks.order) n → a ≡ option_map_or (is_left_white m (graph_of t) (shades_of t)) (slice_get t.blocks.order n) false
+    → option_to_list (cond a (Some id) None) ≡ filter (is_left_white m (graph_of t) (shades_of t)) (option_to_list (slice_get (take t.blocks.began t.blocks.order) n))
+left_told m t id n a at is = one_left (is_left_white m (graph_of t) (shades_of t)) (slice_get (take t.blocks.began t.blocks.order) n) id a at (at_position m t id n a (front_get t.blocks.order t.blocks.began n id at) is)
+
+pub there_front : (xs : List BlockId) (b n : ℕ) (id : BlockId) → Some id ≡ slice_get (take b xs) n → IsSome (slice_get xs n)
+there_front xs b n id at = ap is_some (front_get xs b n id at)

@@ -1,0 +1,4 @@
+pub mod Graphs
+pub mod Unshaded
+pub mod Running
+pub mod Standing

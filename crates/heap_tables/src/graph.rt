@@ -1,0 +1,150 @@
+//! The tables as a graph.
+use crate::cursors::next_some;
+use crate::tables::Tables;
+use az_base::{BlockId, Mode};
+use quantum_space::{Graph, Shade};
+
+impl Graph for Tables {
+    ghost use Rattle.std.specs.Prelude.{◌≡◌, ◌+◌, ◌≤◌, ◌<◌, ◌^◌, length};
+    ghost use Rattle.heap_tables.specs.Graphs.{graph_of, shades_of};
+    ghost use Rattle.heap_tables.specs.Unshaded.{unshaded};
+    ghost use Rattle.heap_tables.specs.declared.tables.Tables.{Tables as TheTables};
+
+    ghost shape = { graph_of };
+
+    ghost shades = { shades_of };
+
+    ghost Rest = { TheTables };
+
+    ghost rest = { unshaded };
+
+    fn block_count(&self) -> u32 {
+        let _len = self.blocks.len();
+        self.blocks.began()
+    }
+
+    fn block(&self, n: u32) -> Option<BlockId> {
+        if n < self.blocks.began() {
+            self.blocks.nth(n)
+        } else {
+            None
+        }
+    }
+
+    fn has_block(&self, id: BlockId) -> bool {
+        match self.blocks.position(id) {
+            Some(n) => n < self.blocks.began(),
+            None => false,
+        }
+    }
+
+    fn anchor(&self, n: u64) -> Option<BlockId> {
+        let mut place = 0;
+        for _ in 0..n {
+            match self.anchor_from(place) {
+                Some(found) => place = found.1,
+                None => return None,
+            }
+        }
+        match self.anchor_from(place) {
+            Some(found) => Some(found.0),
+            None => None,
+        }
+    }
+
+    fn anchor_from(&self, place: u64) -> Option<(BlockId, u64)> {
+        let places = self.roots.as_slice();
+        let roots = places.len() as u64;
+        match next_some(places, place) {
+            Some(found) => Some(found),
+            None => match self.late_anchor_from(place.saturating_sub(roots)) {
+                Some(found) => Some((found.0, found.1 + roots)),
+                None => None,
+            },
+        }
+    }
+
+    fn remembered_count(&self) -> u64 {
+        let len = self.blocks.len();
+        let since = len - self.blocks.began();
+        self.cards.list().len() as u64 + u64::from(since)
+    }
+
+    fn remembered(&self, n: u64) -> Option<BlockId> {
+        let cards = self.cards.list();
+        let count = cards.len() as u64;
+        if n < count {
+            return Some(cards[n as usize]);
+        }
+        let since = self.blocks.len() - self.blocks.began();
+        let n = n - count;
+        if n >= u64::from(since) {
+            return None;
+        }
+        self.blocks.nth(self.blocks.began() + n as u32)
+    }
+
+    fn edge(&self, id: BlockId, n: u64) -> Option<BlockId> {
+        let mut place = 0;
+        for _ in 0..n {
+            match self.edge_from(id, place) {
+                Some(found) => place = found.1,
+                None => return None,
+            }
+        }
+        match self.edge_from(id, place) {
+            Some(found) => Some(found.0),
+            None => None,
+        }
+    }
+
+    fn edge_from(&self, id: BlockId, place: u64) -> Option<(BlockId, u64)> {
+        match self.word_from(id, place) {
+            Some(found) => Some(found),
+            None => self.value_from(id, place),
+        }
+    }
+
+    fn is_young(&self, id: BlockId) -> bool {
+        self.blocks.is_young(id)
+    }
+
+    fn shade(&self, id: BlockId) -> Shade {
+        self.blocks.shade(id)
+    }
+
+    fn set_shade(&mut self, id: BlockId, s: Shade) {
+        self.blocks.set_shade(id, s);
+    }
+
+    fn visit(&mut self, id: BlockId, mode: Mode) -> Option<u32> {
+        let Some(n) = self.blocks.position(id) else {
+            return None;
+        };
+        if n >= self.blocks.began() {
+            return None;
+        }
+        if !self.nth_is_left(n, mode) {
+            return None;
+        }
+        self.blocks.set_nth_shade(n, Shade::Grey);
+        Some(n)
+    }
+
+    fn shade_nth(&mut self, n: u32, s: Shade) {
+        if n < self.blocks.began() {
+            self.blocks.set_nth_shade(n, s);
+        }
+    }
+
+    fn left(&self, n: u32, mode: Mode) -> Option<BlockId> {
+        let Some(id) = self.block(n) else {
+            return None;
+        };
+        if self.nth_is_left(n, mode) {
+            Some(id)
+        } else {
+            None
+        }
+    }
+}

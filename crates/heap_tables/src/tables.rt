@@ -1,0 +1,140 @@
+//! The tables together.
+ghost use Rattle.std.specs.Prelude.{◌≡◌, ◌+◌, ◌≤◌, ◌<◌, ◌^◌, ◌++◌, IsSome, IfOk, MatchOption, map, option_and_then, slice_get, [], drop, false, replicate, None};
+ghost use Rattle.std.specs.Option.{option_map_or};
+ghost use Rattle.std.specs.FinMap.{empty};
+ghost use Rattle.block_table.specs.Places.{NextOf, in_word, somes};
+ghost use Rattle.block_table.specs.Table.{no_blocks, words_in};
+ghost use Rattle.quantum_space.specs.Shapes.{is_left_white};
+ghost use Rattle.heap_tables.specs.Graphs.{edge_places, graph_of, if_held_in, late_places, shades_of};
+ghost use Rattle.heap_tables.specs.Standing.{AreTables};
+
+use crate::roots::Roots;
+use assoc_refs::Assocs;
+use az_base::{BlockId, Mode, NoMemory};
+use block_table::BlockTable;
+use quantum_space::Shade;
+use retain_table::Counts;
+use std::alloc::Global;
+use write_barrier::Cards;
+
+/// The escaped blocks, the roots, the counted blocks, the associations, and the remembered blocks.
+#[derive(Drop)]
+pub struct Tables {
+    pub blocks: BlockTable,
+    pub roots: Roots,
+    pub counts: Counts,
+    pub assocs: Assocs,
+    pub cards: Cards,
+}
+
+impl Tables {
+    /// No block, null roots, and all else empty.
+    pub fn new(alloc: Global) -> Result<Tables, NoMemory>
+        ensures blocks { IfOk result (λ t. t.blocks ≡ no_blocks) }
+        ensures roots { IfOk result (λ t. t.roots ≡ replicate 256 None) }
+        ensures counts { IfOk result (λ t. (t.counts.counts ≡ empty) × (t.counts.spare ≡ 0)) }
+        ensures assocs { IfOk result (λ t. (t.assocs.pairs ≡ empty) × (t.assocs.ready ≡ None)) }
+        ensures cards { IfOk result (λ t. t.cards.list ≡ []) }
+    {
+        let roots = Roots::new(alloc)?;
+        Ok(Tables {
+            blocks: BlockTable::new(alloc),
+            roots,
+            counts: Counts::new(alloc),
+            assocs: Assocs::new(alloc),
+            cards: Cards::new(alloc),
+        })
+    }
+
+    /// What holds of all tables, for callers that argue from it. O(1).
+    pub fn are_tables(&self)
+        ensures { AreTables self.now }
+    {
+        let _blocks = self.blocks.len();
+        let _counted = self.counts.len();
+    }
+
+    /// The first counted or held block from a place on, where the places begin after the roots.
+    pub(crate) fn late_anchor_from(&self, place: u64) -> Option<(BlockId, u64)>
+        ensures next { NextOf (late_places self.now) place result }
+        ensures range { MatchOption result (Unit {0}) (λ x. x.1 < 2 ^ 63 + 2 ^ 32) }
+    {
+        let counted = self.counts.len() as u64;
+        if place < counted {
+            let Some(id) = self.counts.nth(place as usize) else {
+                unreachable!()
+            };
+            return Some((id, place + 1));
+        }
+        match self.held_from(place - counted) {
+            Some(found) => Some((found.0, found.1 + counted)),
+            None => None,
+        }
+    }
+
+    /// The first block from a position on that a thread holds.
+    fn held_from(&self, position: u64) -> Option<(BlockId, u64)>
+        ensures next { NextOf (map (if_held_in self.now.blocks.holds) self.now.blocks.order) position result }
+        ensures range { MatchOption result (Unit {0}) (λ x. x.1 < 2 ^ 32) }
+    {
+        let len = u64::from(self.blocks.len());
+        for n in position..len {
+            if let Some(id) = self.held_at(n as u32) {
+                return Some((id, n + 1));
+            }
+        }
+        None
+    }
+
+    /// The block at a position, where a thread holds it.
+    fn held_at(&self, n: u32) -> Option<BlockId>
+        ensures { result ≡ option_and_then (if_held_in self.now.blocks.holds) (slice_get self.now.blocks.order n) }
+    {
+        if self.blocks.nth_is_held(n) {
+            self.blocks.nth(n)
+        } else {
+            None
+        }
+    }
+
+    /// The first block that a word refers to, from a place on.
+    pub(crate) fn word_from(&self, id: BlockId, place: u64) -> Option<(BlockId, u64)>
+        ensures { NextOf (map in_word (words_in self.now.blocks.blocks id)) place result }
+    {
+        if place >= u64::from(self.blocks.words(id)) {
+            return None;
+        }
+        match self.blocks.next_word(id, place as u32) {
+            Some(found) => Some((found.0, u64::from(found.1))),
+            None => None,
+        }
+    }
+
+    /// The first value of an association, from a place on after the words.
+    pub(crate) fn value_from(&self, id: BlockId, place: u64) -> Option<(BlockId, u64)>
+        requires { somes (drop place (map in_word (words_in self.now.blocks.blocks id))) ≡ [] }
+        ensures { NextOf (edge_places self.now id) place result }
+    {
+        let words = u64::from(self.blocks.words(id));
+        let n = place.saturating_sub(words);
+        match self.assocs.nth_of(id, n as usize) {
+            Some(found) => Some((found.1, words + n + 1)),
+            None => None,
+        }
+    }
+
+    /// Whether the block at a position is white, and one that the mode takes.
+    pub(crate) fn nth_is_left(&self, n: u32, mode: Mode) -> bool
+        requires { IsSome (slice_get self.now.blocks.order n) }
+        ensures { result ≡ option_map_or (is_left_white mode (graph_of self.now) (shades_of self.now)) (slice_get self.now.blocks.order n) false }
+    {
+        let is_white = match self.blocks.nth_shade(n) {
+            Shade::White => true,
+            Shade::Grey | Shade::Black => false,
+        };
+        match mode {
+            Mode::Full => is_white,
+            Mode::Young => is_white && self.blocks.nth_is_young(n),
+        }
+    }
+}
