@@ -8,6 +8,7 @@ pub mod Standing
 pub mod Escaping
 pub mod CycleSteps
 pub mod Finalising
+pub mod Tells
 pub mod Stepping
 pub mod Holding
 pub mod Results

@@ -57,7 +57,7 @@ refers q (word.Block b) h = ap word.Block (same_ids b q h)
 refers q (word.Number n) h = cc
 
 -- one word more
-word_more : (q : BlockId) (w : Word) (ws : List Word) → times_in q (w ∷ ws) ≡ cond {A = ℕ} (refers_to q w) 1 0 + times_in q ws
+pub word_more : (q : BlockId) (w : Word) (ws : List Word) → times_in q (w ∷ ws) ≡ cond {A = ℕ} (refers_to q w) 1 0 + times_in q ws
 word_more q w ws = sum_by-cons (λ x. cond (refers_to q x) 1 0) w ws
 
 no_word : (q : BlockId) (ws : List Word) → ((i : ℕ) → slice_get ws i ≡ Some (word.Block q) → ⊥) → times_in q ws ≡ 0
