@@ -9,6 +9,7 @@ pub mod Escaping
 pub mod CycleSteps
 pub mod Finalising
 pub mod Tells
+pub mod Left
 pub mod Stepping
 pub mod Holding
 pub mod Results

@@ -71,12 +71,12 @@ marked_by f (Some g) = option_map_or (λ r. 0) g.condemned (f g)
 abbrev pub black_in : Shared → ℕ
 black_in h = marked_by (λ g. blacks g.start (shade_in g)) h.gc.cycle
 
--- these blocks are condemned: no weak location shows one of them any more
+-- these blocks are condemned: no weak location shows one of them any more; the room that was ready for a weak location is gone
 pub record Condemned (h : Shared) (r : List BlockId) (new : Shared) : Type 0 where
   pub before : Collecting
   pub was : h.gc.cycle ≡ Some before
   pub left : ℕ
-  pub is : new ≡ record h { weak = retain_keys h.weak (λ l. not (shows_one r (get h.weak l))); gc = record h.gc { cycle = Some (record before { shades = empty; condemned = Some r; left = left }) } }
+  pub is : new ≡ record h { weak = retain_keys h.weak (λ l. not (shows_one r (get h.weak l))); ready = record h.ready { value = None }; gc = record h.gc { cycle = Some (record before { shades = empty; condemned = Some r; left = left }) } }
   pub ascending : IsStrictlySortedBy id_cmp r
   pub start : (b : BlockId) → IsTrue (among r b) → IsTrue (among before.start b)
   -- its finalisers are those that wait, and no more than were foreseen

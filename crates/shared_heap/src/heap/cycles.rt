@@ -58,8 +58,8 @@ impl Heap {
         unreachable!()
     }
 
-    /// Marks to the end, and condemns what is white then. It takes no memory. O(blocks and edges, and c log c for c
-    /// condemned blocks).
+    /// Marks to the end, and condemns what is white then. It takes no memory, and the room that was ready for a weak location
+    /// is gone. O(blocks and edges, and c log c for c condemned blocks).
     pub fn condemn(&mut self, t: ThreadNo) -> Reply
         requires marking { IsMarking self.old t }
         ensures after { AfterCondemn self.old result self.new }
