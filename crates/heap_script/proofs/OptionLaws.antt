@@ -1,5 +1,5 @@
 -- What an option line says, and what one that is refused lacks
-use Rattle.std.proofs.Common.{◌≡◌, ℕ, inl, inr, List, [], ◌∷◌, Some, Result, Ok, Err, refl, sym, ap, ◌∙◌, subst}
+use Rattle.std.proofs.Common.{◌≡◌, ℕ, inl, inr, List, [], ◌∷◌, Result, Ok, Err, refl, sym, ap, ◌∙◌, subst}
 use Rattle.az_words.specs.Numerals.{number_in}
 use Rattle.az_words.specs.Laws.{NumbersAreRead}
 use Rattle.call_words.specs.Reading.Calls.{next_as}

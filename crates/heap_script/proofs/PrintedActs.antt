@@ -1,6 +1,5 @@
 -- What is printed of a line asks for what is built
-use Rattle.std.proofs.Common.{◌≡◌, ℕ, Bool, true, false, ◌&&◌, ◌||◌, List, [], ◌∷◌, ◌++◌, Some, refl, ap, ◌∙◌, sym, subst, append-nil}
-use Rattle.az_base.specs.declared.action.Mode.TheVariants as mode
+use Rattle.std.proofs.Common.{◌≡◌, ℕ, Bool, true, false, ◌&&◌, ◌||◌, List, [], ◌∷◌, refl, ap, ◌∙◌, sym, subst, append-nil}
 use Rattle.zone_model.specs.declared.act.Act.{Act}
 use Rattle.zone_model.specs.declared.act.Act.TheVariants as act
 use Rattle.zone_model.specs.declared.call.Call.TheVariants as call
@@ -17,7 +16,7 @@ use Rattle.call_words.specs.Spacing.{ArePlain}
 use Rattle.call_words.specs.Words.{act_words}
 use Rattle.call_words.specs.Written.{IsAskedFor}
 use Rattle.call_words.proofs.WrittenActs as written
-use Rattle.heap_script.specs.Built.{is_built_kind, begins_built, is_built_before, most_actions, Holds}
+use Rattle.heap_script.specs.Built.{is_built_kind, is_built_before, most_actions, Holds}
 use Rattle.heap_script.specs.Scripts.{IsBuilt}
 
 -- how a line asks: by a name that is built, and by the words after it

@@ -1,5 +1,5 @@
 -- A printed script is read as the same script
-use Rattle.std.proofs.Common.{◌≡◌, ℕ, ◌<◌, ◌≤◌, ◌^◌, Bool, true, false, cond, eqb, List, [], ◌∷◌, ◌++◌, length, map, refl, sym, ap, ◌∙◌, subst, arith, append_assoc, append-nil, codes}
+use Rattle.std.proofs.Common.{◌≡◌, ℕ, ◌<◌, ◌≤◌, ◌^◌, Bool, true, false, cond, eqb, List, [], ◌∷◌, ◌++◌, length, map, refl, sym, ap, ◌∙◌, subst, arith, append_assoc, append-nil}
 use Rattle.std.specs.List.{flat_map, list_all, AllByRecursion, All}
 use Rattle.std.specs.Char.{is_ascii_digit}
 use Rattle.std.specs.Fmt.{decimal}
@@ -18,8 +18,8 @@ use Rattle.heap_script.specs.declared.line.Line.{Line}
 use Rattle.heap_script.specs.declared.script.Script.{Script}
 use Rattle.call_words.specs.declared.options.OptionName.{OptionName}
 use Rattle.call_words.specs.declared.options.OptionName.TheVariants as option
-use Rattle.call_words.specs.Spacing.{spaced, fed_line, IsPlain, ArePlain}
-use Rattle.call_words.specs.Options.{option_text, least, option_words, option_lines, options_lines}
+use Rattle.call_words.specs.Spacing.{spaced, fed_line, ArePlain}
+use Rattle.call_words.specs.Options.{least, option_words, option_lines, options_lines}
 use Rattle.call_words.specs.Ranges.{HasFewActions}
 use Rattle.call_words.specs.Words.{act_words}
 use Rattle.call_words.proofs.PlainWords.{words_are_cut}

@@ -1,5 +1,5 @@
 -- Lines have one text, and texts one line
-use Rattle.std.proofs.Common.{◌≡◌, ℕ, ◌≤◌, suc, Bool, true, not, List, [], ◌∷◌, ◌++◌, length, map, All, Option, Some, None, Err, refl, sym, ap, ◌∙◌, subst, arith, codes}
+use Rattle.std.proofs.Common.{◌≡◌, ℕ, ◌≤◌, suc, Bool, true, not, List, [], ◌∷◌, ◌++◌, map, Option, Some, None, Err, refl, sym, ap, ◌∙◌, arith, codes}
 use Rattle.std.specs.List.{list_all}
 use Rattle.std.proofs.lemmas.Bool.{and_parts}
 use Rattle.std.specs.Fmt.{decimal}
@@ -22,7 +22,7 @@ use Rattle.history_text.specs.declared.lines.HistoryLine.TheVariants as line
 use Rattle.call_words.specs.declared.options.OptionName.{OptionName}
 use Rattle.call_words.specs.declared.options.OptionName.TheVariants as option
 use Rattle.call_words.specs.Spacing.{spaced, IsPlain, ArePlain}
-use Rattle.call_words.specs.Ranges.{IsNumber, IsId, IsCall, IsSpelled}
+use Rattle.call_words.specs.Ranges.{IsNumber, IsCall, IsSpelled}
 use Rattle.history_text.specs.Ranges.{AreIds, AreStats, IsReply, IsEntry}
 use Rattle.call_words.specs.declared.argument_err.ArgumentErr.{ArgumentErr}
 use Rattle.call_words.specs.declared.argument_err.ArgumentErr.TheVariants as errors

@@ -1,5 +1,5 @@
 -- What has a text: numbers within the ranges of their types
-use Rattle.std.specs.Prelude.{◌≤◌, ℕ, List, All, Some, None}
+use Rattle.std.specs.Prelude.{List, All, Some, None}
 use Rattle.az_base.specs.declared.block_id.BlockId.{BlockId}
 use Rattle.zone_model.specs.declared.entry.Entry.{Entry}
 use Rattle.zone_model.specs.declared.entry.Reply.{Reply}

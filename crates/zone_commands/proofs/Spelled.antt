@@ -3,7 +3,7 @@ use Rattle.std.proofs.Common.{◌≡◌, ◌==◌, ℕ, zero, suc, Bool, true, f
 use Rattle.std.specs.List.{All, AllByRecursion}
 use Rattle.std.proofs.lemmas.Bool.{eq-eqb}
 use Rattle.std.proofs.lemmas.List.{map-append}
-use Rattle.std.proofs.lemmas.List.Elements.{All-map, All-from_recursion, recursion_from_All}
+use Rattle.std.proofs.lemmas.List.Elements.{All-from_recursion, recursion_from_All}
 use Rattle.zone_model.specs.declared.act.Act.{Act}
 use Rattle.zone_model.specs.declared.act.Act.TheVariants as act
 use Rattle.zone_model.specs.declared.call.Call.{Call}
@@ -72,9 +72,9 @@ first_of false e es is h = cc
 all_spelled : (history : List Entry) → ((t : ℕ) → Spelled (calls_of (entries_of t history))) → AllByRecursion (λ (e : Entry). IsSpelled e.call) history
 all_spelled [] h = tt
 all_spelled (e ∷ history) h = (
-      first_of (e.thread == e.thread) e (entries_of e.thread history) (eq-eqb e.thread e.thread refl) (h e.thread),
-      all_spelled history (λ t. rest_of (e.thread == t) e (entries_of t history) (h t)),
-    )
+  first_of (e.thread == e.thread) e (entries_of e.thread history) (eq-eqb e.thread e.thread refl) (h e.thread),
+  all_spelled history (λ t. rest_of (e.thread == t) e (entries_of t history) (h t)),
+)
 
 lines_spelled : (lines : List Line) → AllByRecursion (λ (line : Line). IsSpelledAct line.act) lines → AllByRecursion (λ (r : Request). IsSpelledAct r.1) (map (λ (line : Line). (line.thread, line.act)) lines)
 lines_spelled [] h = tt

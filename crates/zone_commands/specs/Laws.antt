@@ -1,6 +1,5 @@
 -- What is written, said of the bytes that were read
 use Rattle.std.specs.Prelude.{◌≡◌, ℕ, List, All, Result}
-use Rattle.az_base.specs.declared.options.Options.{Options}
 use Rattle.zone_model.specs.declared.entry.Entry.{Entry}
 use Rattle.zone_model.specs.declared.entry.Stats.{Stats}
 use Rattle.call_words.specs.Ranges.{IsSpelled}
