@@ -9,11 +9,14 @@ use az_base::{BlockId, Key, Reg, RootNo, ThreadNo, WeakNo};
 use itoa::Buffer;
 use std::alloc::AllocError;
 
-/// Adds a numeral.
+/// Adds a numeral. Most numerals of a history have one digit.
 pub fn push_decimal(out: &mut String, number: u64) -> Result<(), AllocError>
     ensures adds { Adds (string_bytes out.old) (string_bytes out.new) result (decimal number) }
     ensures range { IsNumber number }
 {
+    if number < 10 {
+        return out.push(char::from(b'0' + number as u8));
+    }
     let mut buffer = Buffer::new();
     out.push_str(buffer.format(number))
 }
@@ -30,14 +33,14 @@ pub fn push_thread(out: &mut String, thread: ThreadNo) -> Result<(), AllocError>
 pub fn push_feed(out: &mut String) -> Result<(), AllocError>
     ensures { Adds (string_bytes out.old) (string_bytes out.new) result (10 ∷ []) }
 {
-    out.push_str("\n")
+    out.push('\n')
 }
 
 /// Adds a fixed word.
 pub fn push_word(out: &mut String, word: &str) -> Result<(), AllocError>
     ensures { Adds (string_bytes out.old) (string_bytes out.new) result (32 ∷ word.now) }
 {
-    out.push_str(" ")?;
+    out.push(' ')?;
     out.push_str(word)
 }
 
@@ -45,7 +48,7 @@ pub fn push_number(out: &mut String, number: u64) -> Result<(), AllocError>
     ensures adds { Adds (string_bytes out.old) (string_bytes out.new) result (32 ∷ decimal number) }
     ensures range { IsNumber number }
 {
-    out.push_str(" ")?;
+    out.push(' ')?;
     push_decimal(out, number)
 }
 
@@ -107,8 +110,8 @@ pub fn push_id(out: &mut String, id: BlockId) -> Result<(), AllocError>
     ensures adds { Adds (string_bytes out.old) (string_bytes out.new) result (32 ∷ id_text id) }
     ensures range { IsId id }
 {
-    out.push_str(" ")?;
+    out.push(' ')?;
     push_thread(out, id.thread)?;
-    out.push_str(".")?;
+    out.push('.')?;
     push_decimal(out, u64::from(id.serial))
 }
