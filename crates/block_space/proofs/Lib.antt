@@ -8,3 +8,4 @@ pub mod Freeing
 pub mod Right
 pub mod Fewer
 pub mod Referring
+pub mod Marks

@@ -1,5 +1,6 @@
 -- Words that know where their blocks lie
-use Rattle.std.proofs.Common.{MatchOption, ◌≡◌, inl, inr, ℕ, zero, suc, ◌+◌, ◌*◌, ◌<◌, List, [], ◌∷◌, Option, Some, None, refl, sym, ap, ◌∙◌, subst, get_or, set, get_or-set_same}
+use Rattle.std.specs.Bool.{⊤}
+use Rattle.std.proofs.Common.{Bool, true, false, ◌^◌, nat_lt, if◌then◌else◌, MatchOption, ◌≡◌, inl, inr, ℕ, zero, suc, ◌+◌, ◌*◌, ◌<◌, List, [], ◌∷◌, Option, Some, None, refl, sym, ap, ◌∙◌, subst, get_or, set, get_or-set_same}
 use Rattle.az_base.specs.declared.block_id.BlockId.{BlockId}
 use Rattle.az_base.specs.declared.word.Class.{Class}
 use Rattle.az_base.specs.declared.word.Class.TheVariants as class
@@ -9,8 +10,9 @@ use Rattle.block_layouts.specs.declared.layout.Layout.{Layout}
 use Rattle.block_layouts.specs.Layouts.{class_at, len_of}
 use Rattle.quantum_space.specs.declared.placed.PlacedWord.{PlacedWord}
 use Rattle.quantum_space.specs.declared.placed.PlacedWord.TheVariants as word
-use Rattle.quantum_space.specs.PlacedWords.{unplaced}
-use Rattle.quantum_space.specs.Regions.{IsPlaced, IsRegion, IsRenotedRegion, IsRoomier, Region', new_word, no_id, with_byte, with_word}
+use Rattle.quantum_space.specs.PlacedWords.{in_kind, knowing, unplaced}
+use Rattle.quantum_space.specs.Regions.{HasBlock, IsPlaced, IsRegion, IsRenotedRegion, IsRoomier, Region', new_word, no_id, with_byte, with_word}
+use Rattle.quantum_space.specs.declared.spot.Spot.{Spot}
 use Rattle.quantum_space.specs.declared.spot.Kind.{Kind}
 use Rattle.quantum_space.specs.declared.spot.Kind.TheVariants as kind
 use Rattle.block_space.specs.Tables.{Table'}
@@ -224,3 +226,25 @@ noted_medium s at byte inv = record {
   small = inv.small;
   medium = inv.medium;
 }
+
+-- a block that may have turned grey
+pub greyed_small : (s : Space') (at byte : ℕ) (is_new : Bool) → IsWhole s → IsWhole (altered s kind.Small (if is_new then with_byte s.small at byte else s.small) s.table s.spare s.used)
+greyed_small s at byte true inv = noted_small s at byte inv
+greyed_small s at byte false inv = inv
+
+pub greyed_medium : (s : Space') (at byte : ℕ) (is_new : Bool) → IsWhole s → IsWhole (altered s kind.Medium (if is_new then with_byte s.medium at byte else s.medium) s.table s.spare s.used)
+greyed_medium s at byte true inv = noted_medium s at byte inv
+greyed_medium s at byte false inv = inv
+
+-- a reference to a block that is there
+pub knowing_right : (s : Space') (x : Spot) (id : BlockId) → HasBlock (region s x.kind) x.at → id ≡ get_or (region s x.kind).ids x.at no_id → IsRight s.small.layouts s.medium.layouts s.small.ids s.medium.ids (knowing id x)
+knowing_right s x id has e = go (nat_lt x.at (2 ^ 32)) x.kind has e
+  where
+    begins : (m : Option Layout) (n : BlockId) → id ≡ n → MatchOption m ⊥ (λ l. ⊤) → MatchOption m ⊥ (λ l. n ≡ id)
+    begins None n e h = absurd h
+    begins (Some l) n e h = sym e
+
+    go : (b : Bool) (k : Kind) → HasBlock (region s k) x.at → id ≡ get_or (region s k).ids x.at no_id → IsRight s.small.layouts s.medium.layouts s.small.ids s.medium.ids (if b then in_kind k id x.at else word.Block id)
+    go false k h e = tt
+    go true kind.Small h e = begins (get_or s.small.layouts x.at None) (get_or s.small.ids x.at no_id) e h
+    go true kind.Medium h e = begins (get_or s.medium.layouts x.at None) (get_or s.medium.ids x.at no_id) e h

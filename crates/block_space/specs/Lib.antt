@@ -1,3 +1,4 @@
 pub mod Maps
+pub mod Marking
 pub mod Spaces
 pub mod Tables

@@ -6,6 +6,7 @@ ghost use Rattle.block_space.specs.Maps.{IsSound};
 ghost use Rattle.quantum_space.specs.declared.place.Place.{Place as APlace};
 
 mod blocks;
+mod marking;
 mod notes;
 mod reading;
 mod room;
