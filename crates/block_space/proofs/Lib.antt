@@ -9,3 +9,4 @@ pub mod Right
 pub mod Fewer
 pub mod Referring
 pub mod Marks
+pub mod Unmarked

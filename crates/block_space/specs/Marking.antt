@@ -1,5 +1,5 @@
 -- Marking over a space: shades by quantum, and visits along the words of a block
-use Rattle.std.specs.Prelude.{◌≡◌, ℕ, zero, suc, ◌+◌, ◌-◌, ◌*◌, ◌/◌, ◌%◌, ◌<◌, ◌≤◌, ◌&&◌, nat_lt, Bool, true, List, [], ◌∷◌, ◌++◌, Option, Some, None, MatchOption, ⊤, IsTrue, get_or, if◌then◌else◌}
+use Rattle.std.specs.Prelude.{map, ◌≡◌, ℕ, zero, suc, ◌+◌, ◌-◌, ◌*◌, ◌/◌, ◌%◌, ◌<◌, ◌≤◌, ◌&&◌, nat_lt, Bool, true, List, [], ◌∷◌, ◌++◌, Option, Some, None, MatchOption, ⊤, IsTrue, get_or, if◌then◌else◌}
 use Rattle.std.specs.Option.{option_map_or}
 use Rattle.az_base.specs.declared.action.Mode.{Mode}
 use Rattle.az_base.specs.declared.action.Mode.TheVariants as mode
@@ -14,7 +14,10 @@ use Rattle.quantum_space.specs.declared.placed.PlacedWord.TheVariants as word
 use Rattle.quantum_space.specs.declared.spot.Spot.{Spot}
 use Rattle.quantum_space.specs.declared.spot.Kind.{Kind}
 use Rattle.quantum_space.specs.declared.spot.Kind.TheVariants as kind
-use Rattle.quantum_space.specs.PlacedWords.{spot_at}
+use Rattle.az_base.specs.declared.word.Word.{Word}
+use Rattle.az_base.specs.declared.word.Word.TheVariants as plain
+use Rattle.quantum_space.specs.AdminMaps.{with_bytes}
+use Rattle.quantum_space.specs.PlacedWords.{spot_at, unplaced, word_of}
 use Rattle.quantum_space.specs.Regions.{Region', HasBlock, HasWord, no_id, with_byte, with_word}
 use Rattle.quantum_space.specs.Shapes.{Puts, Stack, is_unmarked}
 use Rattle.block_space.specs.Spaces.{Space', region, with_region}
@@ -111,3 +114,30 @@ pub record HasSameBlocks (s new : Space') : Type 0 where
   pub ids : (k : Kind) → (region new k).ids ≡ (region s k).ids
   pub words : (k : Kind) → (region new k).words ≡ (region s k).words
   pub width : (k : Kind) → (region new k).width ≡ (region s k).width
+
+-- the byte with the shade white, and all else that it tells
+abbrev pub unshaded : ℕ → ℕ
+unshaded b = b - b % 4
+
+-- the word without what it knows of where its block lies
+abbrev pub forgotten : PlacedWord → PlacedWord
+forgotten w = unplaced (word_of w)
+
+-- the blocks of a kind, without shades and without what words know of where blocks lie
+abbrev pub unmarked_region : Region' → Region'
+unmarked_region r = record { map = with_bytes r.map (map unshaded r.map.bytes); ids = r.ids; layouts = r.layouts; words = map forgotten r.words; width = r.width; opened = r.opened; top = r.top }
+
+-- the space without shades and without what words know of where blocks lie: what marking leaves as it is
+abbrev pub unmarked : Space' → Space'
+unmarked s = record { small = unmarked_region s.small; medium = unmarked_region s.medium; table = s.table; spare = s.spare; used = s.used }
+
+-- the block to which a word refers
+abbrev pub ends_in : Word → List BlockId
+ends_in plain.Null = []
+ends_in (plain.Block id) = id ∷ []
+ends_in (plain.Number n) = []
+
+-- the blocks to which so many words refer of the block that begins at a quantum, from one word on
+abbrev pub ends_from : Space' → Spot → ℕ → ℕ → List BlockId
+ends_from s x i zero = []
+ends_from s x i (suc n) = ends_in (word_of (word_in s x i)) ++ ends_from s x (suc i) n
