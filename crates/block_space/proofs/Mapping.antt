@@ -14,6 +14,7 @@ use Rattle.quantum_space.specs.declared.spot.Spot.{Spot}
 use Rattle.quantum_space.specs.declared.spot.Kind.{Kind}
 use Rattle.quantum_space.specs.declared.spot.Kind.TheVariants as kind
 use Rattle.quantum_space.specs.PlacedWords.{spot_at}
+use Rattle.block_space.specs.Marking.{HasBlockMoreIn}
 use Rattle.block_space.specs.declared.table.Subzone.{Subzone}
 use Rattle.block_space.specs.Tables.{Table', IsTable, numbers, opened_with, subzone_of}
 use Rattle.block_space.specs.Spaces.{Space', HasBlockAt, IsFreedAt, IsPlacedAt, IsSpace, IsTakenOff, byte_at, id_at, kind_of, layout_at, other, region, size_of, spot_in, spot_of, placed_at}
@@ -207,6 +208,17 @@ module _ (s new : Space') (sound : IsSound s) (id : BlockId) (l : Layout) (p : P
     others = others;
     only = only;
   }
+
+  -- the same by quantum
+  pub block_more_in : (x : Spot) → spot_of new p ≡ Some x → HasBlockMoreIn s new id l x
+  block_more_in x e = subst (λ (y : Spot). HasBlockMoreIn s new id l y) (let q : spot_at k at ≡ x = (let f : Some (spot_at k at) ≡ Some x = sym here ∙ e in cc) in q) (record {
+    fresh = is.placed.placed.fresh;
+    layout = ap (λ (xs : List (Option Layout)). get_or xs at None) is.placed.placed.layouts ∙ get_or-set_same (region s k).layouts at (Some l) None is.placed.placed.inside;
+    its_id = ap (λ (xs : List BlockId). get_or xs at no_id) is.placed.placed.ids ∙ get_or-set_same (region s k).ids at id no_id (let r = sound.regions k in omega (arith, is.placed.placed.inside, r.ids, r.layouts));
+    byte = is.placed.placed.first;
+    others = λ y o e. (let t = still y o e in (t.layout, t.id, t.byte));
+    only = was;
+  })
 
 -- a block less
 module _ (s new : Space') (sound : IsSound s) (l : Layout) (p : Place) (x : Spot) (there : spot_of s p ≡ Some x) (stored : get_or (region s x.kind).layouts x.at None ≡ Some l) (is : IsFreedAt s new l x) where

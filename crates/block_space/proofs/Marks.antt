@@ -1,8 +1,7 @@
 -- Visits change admin bytes alone
-use Rattle.std.proofs.Common.{◌≡◌, ℕ, ◌+◌, ◌-◌, ◌*◌, ◌<◌, Bool, true, false, if◌then◌else◌, List, Option, Some, None, MatchOption, refl, sym, ap, ◌∙◌, subst, arith, get_or}
+use Rattle.std.proofs.Common.{◌≡◌, ℕ, ◌+◌, ◌*◌, ◌<◌, Bool, true, false, if◌then◌else◌, List, Option, Some, None, MatchOption, refl, sym, ap, ◌∙◌, subst, arith, get_or}
 use Rattle.std.specs.Option.{option_map_or}
 use Rattle.az_base.specs.declared.action.Mode.{Mode}
-use Rattle.az_base.specs.declared.block_id.BlockId.{BlockId}
 use Rattle.block_layouts.specs.declared.layout.Layout.{Layout}
 use Rattle.block_layouts.specs.Layouts.{len_of}
 use Rattle.quantum_space.specs.declared.placed.PlacedWord.{PlacedWord}
@@ -15,7 +14,7 @@ use Rattle.quantum_space.specs.PlacedWords.{spot_at}
 use Rattle.quantum_space.specs.Regions.{HasWord, Region', with_byte}
 use Rattle.quantum_space.specs.Shapes.{Stack}
 use Rattle.block_space.specs.Spaces.{Space', region, with_region}
-use Rattle.block_space.specs.Marking.{HasBlockIn, HasSameBlocks, IsGreyed, VisitsSpot, VisitsWord, byte_in, layout_in, len_in, shaded, with_byte_in, word_in}
+use Rattle.block_space.specs.Marking.{HasSameBlocks, IsGreyed, VisitsWord, byte_in, layout_in, len_in, shaded, with_byte_in, word_in}
 
 -- what a kind's blocks share with those before stays where those of one kind keep it
 module _ {X : Type 0} (f : Region' → X) where

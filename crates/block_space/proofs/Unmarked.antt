@@ -1,10 +1,9 @@
 -- What marking leaves as it is
-use Rattle.std.proofs.Common.{◌≡◌, ℕ, zero, suc, ◌+◌, ◌-◌, ◌*◌, ◌%◌, ◌/◌, ◌<◌, ◌++◌, Bool, true, false, if◌then◌else◌, List, [], ◌∷◌, Option, None, refl, sym, ap, ◌∙◌, subst, arith, get_or, map, nat_lt}
+use Rattle.std.proofs.Common.{◌≡◌, ℕ, zero, suc, ◌+◌, ◌*◌, ◌%◌, ◌/◌, Bool, true, false, if◌then◌else◌, List, Option, None, refl, ap, ◌∙◌, arith, get_or, map, nat_lt}
 use Rattle.std.specs.Option.{option_map_or}
 use Rattle.std.proofs.Math.Seq.{map-set_same}
 use Rattle.std.proofs.Math.ListN.{get_or-map}
 use Rattle.az_base.specs.declared.action.Mode.{Mode}
-use Rattle.az_base.specs.declared.block_id.BlockId.{BlockId}
 use Rattle.block_layouts.specs.declared.layout.Layout.{Layout}
 use Rattle.block_layouts.specs.Layouts.{len_of}
 use Rattle.quantum_space.specs.declared.placed.PlacedWord.{PlacedWord}
@@ -14,13 +13,12 @@ use Rattle.quantum_space.specs.declared.shade.Shade.TheVariants as shade
 use Rattle.quantum_space.specs.declared.spot.Spot.{Spot}
 use Rattle.quantum_space.specs.declared.spot.Kind.{Kind}
 use Rattle.quantum_space.specs.declared.spot.Kind.TheVariants as kind
-use Rattle.quantum_space.specs.AdminBytes.{shade_bits}
 use Rattle.quantum_space.specs.AdminMaps.{with_bytes}
 use Rattle.quantum_space.specs.PlacedWords.{spot_at, unplaced, word_of}
 use Rattle.quantum_space.specs.Regions.{Region', with_byte, with_word}
 use Rattle.quantum_space.specs.Shapes.{Stack}
 use Rattle.block_space.specs.Spaces.{Space', region, with_region}
-use Rattle.block_space.specs.Marking.{IsGreyed, VisitsWord, VisitsWords, byte_in, ends_from, ends_in, forgotten, layout_in, len_in, shaded, takes_byte, unmarked, unmarked_region, unshaded, with_byte_in, with_word_in, word_in}
+use Rattle.block_space.specs.Marking.{IsGreyed, VisitsWord, VisitsWords, byte_in, forgotten, layout_in, len_in, shaded, unmarked, unmarked_region, unshaded, with_byte_in, with_word_in, word_in}
 
 -- the parts of a kind
 pub region_unmarked : (s : Space') (k : Kind) → region (unmarked s) k ≡ unmarked_region (region s k)

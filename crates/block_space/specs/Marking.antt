@@ -1,5 +1,5 @@
 -- Marking over a space: shades by quantum, and visits along the words of a block
-use Rattle.std.specs.Prelude.{map, ◌≡◌, ℕ, zero, suc, ◌+◌, ◌-◌, ◌*◌, ◌/◌, ◌%◌, ◌<◌, ◌≤◌, ◌&&◌, nat_lt, Bool, true, List, [], ◌∷◌, ◌++◌, Option, Some, None, MatchOption, ⊤, IsTrue, get_or, if◌then◌else◌}
+use Rattle.std.specs.Prelude.{◌⊎◌, map, ◌≡◌, ℕ, zero, suc, ◌+◌, ◌-◌, ◌*◌, ◌/◌, ◌%◌, ◌<◌, ◌≤◌, ◌&&◌, nat_lt, Bool, true, List, [], ◌∷◌, ◌++◌, Option, Some, None, ⊤, get_or, if◌then◌else◌}
 use Rattle.std.specs.Option.{option_map_or}
 use Rattle.az_base.specs.declared.action.Mode.{Mode}
 use Rattle.az_base.specs.declared.action.Mode.TheVariants as mode
@@ -18,7 +18,7 @@ use Rattle.az_base.specs.declared.word.Word.{Word}
 use Rattle.az_base.specs.declared.word.Word.TheVariants as plain
 use Rattle.quantum_space.specs.AdminMaps.{with_bytes}
 use Rattle.quantum_space.specs.PlacedWords.{spot_at, unplaced, word_of}
-use Rattle.quantum_space.specs.Regions.{Region', HasBlock, HasWord, no_id, with_byte, with_word}
+use Rattle.quantum_space.specs.Regions.{Region', HasBlock, new_byte, no_id, with_byte, with_word}
 use Rattle.quantum_space.specs.Shapes.{Puts, Stack, is_unmarked}
 use Rattle.block_space.specs.Spaces.{Space', region, with_region}
 
@@ -141,3 +141,12 @@ ends_in (plain.Number n) = []
 abbrev pub ends_from : Space' → Spot → ℕ → ℕ → List BlockId
 ends_from s x i zero = []
 ends_from s x i (suc n) = ends_in (word_of (word_in s x i)) ++ ends_from s x (suc i) n
+
+-- one block has come at a quantum, with its id and the byte of a new one, and all others are as they were
+pub record HasBlockMoreIn (s new : Space') (id : BlockId) (l : Layout) (x : Spot) : Type 0 where
+  pub fresh : layout_in s x ≡ None
+  pub layout : layout_in new x ≡ Some l
+  pub its_id : id_in new x ≡ id
+  pub byte : byte_in new x ≡ new_byte
+  pub others : (y : Spot) (o : Layout) → layout_in s y ≡ Some o → (layout_in new y ≡ Some o) × (id_in new y ≡ id_in s y) × (byte_in new y ≡ byte_in s y)
+  pub only : (y : Spot) (o : Layout) → layout_in new y ≡ Some o → (y ≡ x) ⊎ (layout_in s y ≡ Some o)

@@ -4,6 +4,8 @@ ghost use Rattle.std.specs.Option.{option_and_then};
 ghost use Rattle.block_space.specs.Spaces.{Space', kind_of, size_of, spot_in, spot_of, layout_at, IsWhole};
 ghost use Rattle.block_space.specs.Maps.{IsSound};
 ghost use Rattle.quantum_space.specs.declared.place.Place.{Place as APlace};
+ghost use Rattle.quantum_space.specs.declared.spot.Spot.{Spot as ASpot};
+ghost use Rattle.block_space.specs.Marking.{layout_in};
 
 mod blocks;
 mod marking;
@@ -102,6 +104,7 @@ impl Space {
     /// No subzone.
     pub fn new(alloc: Global) -> Space
         ensures none { (p : APlace) → layout_at result p ≡ None }
+        ensures by_quantum { (x : ASpot) → layout_in result x ≡ None }
         ensures subzones { result.table.subzones ≡ [] }
         ensures spare { result.spare ≡ [] }
         ensures used { result.used ≡ 0 }
@@ -116,7 +119,7 @@ impl Space {
     }
 
     /// What holds of each space, for callers that argue from it.
-    fn is_sound(&self)
+    pub fn is_sound(&self)
         ensures { IsSound self.now }
     {
         let _ = self.small.unopened();
@@ -125,7 +128,7 @@ impl Space {
     }
 
     /// That each word is right about where its block lies, for callers that argue from it.
-    fn is_whole(&self)
+    pub fn is_whole(&self)
         ensures { IsWhole self.now }
     {
         let _ = self.small.unopened();

@@ -386,6 +386,7 @@ impl Region {
         ensures there { IsTrue result → subzone < self.now.map.subzones }
         ensures within { IsTrue result → quantum < self.now.map.size }
         ensures block { IsTrue result → HasBlock self.now (subzone * self.now.map.size + quantum) }
+        ensures exact { subzone < self.now.map.subzones → quantum < self.now.map.size → HasBlock self.now (subzone * self.now.map.size + quantum) → IsTrue result }
     {
         let size = self.map.size();
         if subzone < self.map.subzones() && quantum < size {

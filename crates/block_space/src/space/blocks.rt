@@ -3,9 +3,11 @@ ghost use Rattle.std.specs.Prelude.{List, ◌≡◌, ◌≤◌, ◌+◌, ◌∷�
 ghost use Rattle.block_layouts.specs.Layouts.{len_of, quanta};
 ghost use Rattle.quantum_space.specs.Regions.{IsRegion, quanta_in, room_of};
 ghost use Rattle.block_space.specs.Tables.{numbers};
-ghost use Rattle.block_space.specs.Spaces.{kind_of, region, HasBlockAt, IsFreedIn, IsTakenOff, IsPlacedAt, IsPlacedIn, block_quanta};
+ghost use Rattle.block_space.specs.Spaces.{kind_of, region, spot_of, HasBlockAt, IsFreedIn, IsTakenOff, IsPlacedAt, IsPlacedIn, block_quanta};
 ghost use Rattle.block_space.specs.Maps.{AreTakenOff, HasBlockLess, HasBlockMore, HasBlocksLess, IsFreedThere, KnowsNone, MayFree};
 ghost use Rattle.quantum_space.specs.declared.place.Place.{Place as APlace};
+ghost use Rattle.quantum_space.specs.declared.spot.Spot.{Spot as ASpot};
+ghost use Rattle.block_space.specs.Marking.{HasBlockMoreIn};
 
 use crate::space::{Space, kind_of, spot_by};
 use crate::table::Table;
@@ -90,6 +92,7 @@ impl Space {
         requires { slice_get self.old.spare 0 ≡ Some (len_of layout) }
         ensures placed { IsPlacedAt self.old self.new id layout result }
         ensures more { HasBlockMore self.old self.new id layout result }
+        ensures by_quantum { (x : ASpot) → spot_of self.new result ≡ Some x → HasBlockMoreIn self.old self.new id layout x }
     {
         self.is_sound();
         self.place_first(id, layout)

@@ -2,7 +2,7 @@
 //!
 //! Who marks knows a block by its quantum (`Spot`). The byte of that quantum has its shade, and its words begin there, so
 //! neither costs a look-up. What a word refers to is visited by the quantum that the word knows.
-ghost use Rattle.std.specs.Prelude.{◌≡◌, IsTrue, IsFalse, IfSome, get_or, if◌then◌else◌};
+ghost use Rattle.std.specs.Prelude.{◌≡◌, ◌<◌, ◌≤◌, IsTrue, IsFalse, IfSome, get_or, if◌then◌else◌};
 ghost use Rattle.quantum_space.specs.Regions.{HasBlock, HasWord, IsFirstByte, with_byte};
 ghost use Rattle.quantum_space.specs.AdminBytes.{shade_bits};
 ghost use Rattle.quantum_space.specs.Shapes.{is_unmarked};
@@ -162,7 +162,8 @@ impl Space {
 
     /// How many words the block has that begins at a quantum; 0 where none begins. O(1).
     pub fn len_in(&self, spot: Spot) -> u32
-        ensures { result ≡ len_in self.now spot }
+        ensures value { result ≡ len_in self.now spot }
+        ensures range { result ≤ 4096 }
     {
         let layout = match spot.kind {
             Kind::Small => self.small.layout(spot.at),
@@ -226,6 +227,7 @@ impl Space {
         requires { HasBlockIn self.old spot }
         ensures visits { VisitsFrom mode spot from self.old stack.old self.new stack.new result }
         ensures same { HasSameBlocks self.old self.new }
+        ensures range { IfSome result (λ j. j < 4096) }
     {
         let len = self.len_in(spot);
         for i in from..len {

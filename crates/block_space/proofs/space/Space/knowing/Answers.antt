@@ -1,4 +1,4 @@
-use Rattle.std.proofs.Common.{subst, sym, ◌∙◌, ap}
+use Rattle.std.proofs.Common.{subst, sym}
 use Rattle.quantum_space.specs.declared.placed.PlacedWord.{PlacedWord}
 use Rattle.block_space.specs.Spaces.{IsRight}
 use Rattle.block_space.proofs.Right.{knowing_right}

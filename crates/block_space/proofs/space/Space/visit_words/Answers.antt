@@ -1,7 +1,6 @@
-use Rattle.std.proofs.Common.{◌≡◌, ℕ, zero, suc, ◌+◌, ◌-◌, ◌<◌, ◌≤◌, ◌∙◌, inl, inr, sym, ap, subst, arith, refl}
-use Rattle.block_layouts.specs.declared.layout.Layout.{Layout}
+use Rattle.std.proofs.Common.{◌≡◌, suc, ◌+◌, ◌∙◌, inl, inr, ap, subst, arith, refl}
 use Rattle.quantum_space.specs.declared.placed.PlacedWord.{PlacedWord}
-use Rattle.block_space.specs.Marking.{IsLost, VisitsWord, VisitsWords, word_in}
+use Rattle.block_space.specs.Marking.{VisitsWord, word_in}
 use Rattle.block_space.proofs.Marks.{has_word, same_itself, same_len, same_more, same_word, visited_same}
 use Rattle.block_space.proofs.space.Space.visit_words.Goals as goal
 
@@ -10,7 +9,7 @@ word_in-word-requires c =
     let s = c.args.self.now in
     let cur = c.loop-i.self in
     let same = c.loop-i.invariant.same in
-    has_word cur c.args.spot c.loop-i.i (omega (arith, same_len s cur c.args.spot same, c.len_in-len.ensures, c.loop-i-test.true))
+    has_word cur c.args.spot c.loop-i.i (omega (arith, same_len s cur c.args.spot same, c.len_in-len.ensures.value, c.loop-i-test.true))
 
 pub loop-i-init : goal.loop-i-init
 loop-i-init c = record { count = 0; reached = omega arith; within = inl refl; visits = (refl, refl); same = same_itself c.args.self.now }

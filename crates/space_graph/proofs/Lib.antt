@@ -1,0 +1,4 @@
+pub mod Positions
+pub mod Visits
+pub mod Steps
+pub mod Comings

@@ -1,0 +1,5 @@
+use Rattle.space_graph.proofs.Comings.{all_begun}
+use Rattle.space_graph.proofs.graph.SpaceGraph.begin.Goals as goal
+
+pub invariant_of-self : goal.invariant_of-self
+invariant_of-self c = all_begun _ c.len.result c.self.invariant c.len.ensures.len

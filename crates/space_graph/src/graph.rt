@@ -1,0 +1,170 @@
+//! The blocks by position, and the space in which they lie.
+ghost use Rattle.std.specs.Prelude.{◌≡◌, ◌<◌, ◌++◌, ◌∷◌, [], length, None, Some, MatchOption, IfSome, IfNone, IfOk, OnOk, OnErr, IsTrue, is_some, slice_get};
+ghost use Rattle.std.specs.Option.{option_map};
+ghost use Rattle.az_base.specs.declared.word.Word.TheVariants as words;
+ghost use Rattle.quantum_space.specs.PlacedWords.{word_of};
+ghost use Rattle.quantum_space.specs.Regions.{HasWord};
+ghost use Rattle.quantum_space.specs.Shapes.{Has, Visits, WithShade, is_left_white};
+ghost use Rattle.block_space.specs.Spaces.{region};
+ghost use Rattle.block_space.specs.Marking.{HasBlockIn, IsLost, id_in, len_in, word_in};
+ghost use Rattle.space_graph.specs.Graphs.{Follows, FollowsFrom, begun, rest_of, shades_of, shape_of, spot_for};
+
+mod building;
+mod view;
+
+use crate::rows::Rows;
+use az_base::{BlockId, Mode, Word};
+use block_space::Space;
+use quantum_space::{Greys, Shade, Spot};
+use std::alloc::Global;
+use std::marker::Model;
+
+/// Blocks by position, the first of which were there as the cycle began; the space in which they lie; the anchors, and the
+/// remembered blocks.
+#[derive(Drop)]
+pub struct SpaceGraph {
+    rows: Rows,
+    space: Space,
+    began: u32,
+    anchors: Vec<BlockId>,
+    remembered: Vec<BlockId>,
+}
+
+impl Model for SpaceGraph {
+    ghost use Rattle.space_graph.specs.Graphs.{Graph', IsGraph};
+
+    ghost Value = { Graph' };
+
+    ghost view = { λ g. record { rows = g.rows.list; space = g.space; began = g.began; anchors = g.anchors.items; remembered = g.remembered.items } };
+
+    ghost invariant = { λ g. IsGraph (record { rows = g.rows.list; space = g.space; began = g.began; anchors = g.anchors.items; remembered = g.remembered.items }) };
+}
+
+/// A hint where a block lies: the number of its quantum, where that has 32 bits.
+fn hint_of(spot: Spot) -> u32 {
+    u32::try_from(spot.at).unwrap_or(0)
+}
+
+impl SpaceGraph {
+    /// Where a block begins; None exactly where it isn't there.
+    fn find(&self, id: BlockId) -> Option<Spot>
+        ensures value { result ≡ spot_for self.now.rows id }
+        ensures there { IfSome result (λ x. HasBlockIn self.now.space x) }
+        ensures its { IfSome result (λ x. id_in self.now.space x ≡ id) }
+    {
+        self.rows.find(id)
+    }
+
+    /// The same, without a look-up where the hint is right.
+    fn find_near(&self, id: BlockId, hint: u32) -> Option<Spot>
+        ensures value { result ≡ spot_for self.now.rows id }
+        ensures there { IfSome result (λ x. HasBlockIn self.now.space x) }
+        ensures its { IfSome result (λ x. id_in self.now.space x ≡ id) }
+    {
+        match self.space.spot_near(id, hint) {
+            Some(spot) => Some(spot),
+            None => self.find(id),
+        }
+    }
+
+    /// One of the blocks as the cycle began, by position, and where it begins; None exactly past the last.
+    fn row(&self, n: u32) -> Option<(BlockId, Spot)>
+        ensures value { option_map (λ r. r.0) result ≡ slice_get (begun self.now) n }
+        ensures there { IfSome result (λ r. HasBlockIn self.now.space r.1) }
+        ensures its { IfSome result (λ r. id_in self.now.space r.1 ≡ r.0) }
+        ensures begun { IfSome result (λ r. Has (begun self.now) r.0) }
+    {
+        let _ = self.rows.len();
+        if n < self.began {
+            self.rows.get(n)
+        } else {
+            None
+        }
+    }
+
+    /// Whether the block that begins at a quantum is white, and one that the mode takes.
+    fn is_left_at(&self, spot: Spot, id: BlockId, mode: Mode) -> bool
+        requires block { HasBlockIn self.now.space spot }
+        requires its { id_in self.now.space spot ≡ id }
+        ensures { result ≡ is_left_white mode (shape_of self.now) (shades_of self.now) id }
+    {
+        self.space.is_left_in(spot, mode)
+    }
+
+    /// Another shade for the block that begins at a quantum.
+    fn shade_at(&mut self, spot: Spot, id: BlockId, shade: Shade)
+        requires block { HasBlockIn self.old.space spot }
+        requires its { id_in self.old.space spot ≡ id }
+        requires begun { Has (begun self.old) id }
+        ensures shade { WithShade (shades_of self.old) id shade (shades_of self.new) }
+        ensures rest { rest_of self.new ≡ rest_of self.old }
+    {
+        self.space.shade_spot(spot, shade);
+    }
+
+    /// Greys the block that begins at a quantum, where it is white and the mode takes it, and says whether it did.
+    fn grey_at(&mut self, spot: Spot, id: BlockId, mode: Mode) -> bool
+        requires block { HasBlockIn self.old.space spot }
+        requires its { id_in self.old.space spot ≡ id }
+        ensures visits { Visits mode (shape_of self.old) id result (shades_of self.old) (shades_of self.new) }
+        ensures rest { rest_of self.new ≡ rest_of self.old }
+    {
+        self.space.grey_spot(spot, mode)
+    }
+
+    /// Follows the words of a block from one on, up to the first that doesn't know where its block lies, and says which
+    /// one that is.
+    fn follow_known(&mut self, spot: Spot, from: u32, mode: Mode, stack: &mut Greys) -> Option<u32>
+        requires { HasBlockIn self.old.space spot }
+        ensures follows { FollowsFrom mode spot from self.old stack.old self.new stack.new result }
+        ensures rest { rest_of self.new ≡ rest_of self.old }
+        ensures range { IfSome result (λ j. j < 4096) }
+    {
+        self.space.is_whole();
+        self.space.visit_words(spot, from, mode, stack)
+    }
+
+    /// Makes a word know where its block lies.
+    fn refer_at(&mut self, spot: Spot, i: u32, to: Spot)
+        requires word { HasWord (region self.old.space spot.kind) spot.at i }
+        requires block { HasBlockIn self.old.space to }
+        requires same { word_of (word_in self.old.space spot i) ≡ words.Block (id_in self.old.space to) }
+        ensures shades { shades_of self.new ≡ shades_of self.old }
+        ensures rest { rest_of self.new ≡ rest_of self.old }
+        ensures there { HasBlockIn self.new.space to }
+        ensures its { id_in self.new.space to ≡ id_in self.old.space to }
+    {
+        self.space.refer_spot(spot, i, to);
+    }
+
+    /// Follows a word that doesn't know where its block lies. It knows it then, where the block is there.
+    fn follow_lost(&mut self, spot: Spot, i: u32, mode: Mode, stack: &mut Greys)
+        requires word { HasWord (region self.old.space spot.kind) spot.at i }
+        ensures follows { Follows mode spot i 1 self.old stack.old self.new stack.new }
+        ensures rest { rest_of self.new ≡ rest_of self.old }
+    {
+        let Word::Block(id) = self.space.word_in(spot, i).word() else {
+            return;
+        };
+        let Some(to) = self.find(id) else {
+            return;
+        };
+        self.refer_at(spot, i, to);
+        if self.grey_at(to, id, mode) {
+            stack.push_within(id, hint_of(to));
+        }
+    }
+
+    /// Follows all words of a block.
+    fn follow_words(&mut self, spot: Spot, mode: Mode, stack: &mut Greys)
+        requires { HasBlockIn self.old.space spot }
+        ensures follows { Follows mode spot 0 (len_in self.old.space spot) self.old stack.old self.new stack.new }
+        ensures rest { rest_of self.new ≡ rest_of self.old }
+    {
+        let mut from = 0;
+        while let Some(at) = self.follow_known(spot, from, mode, stack) {
+            self.follow_lost(spot, at, mode, stack);
+            from = at + 1;
+        }
+    }
+}
