@@ -54,11 +54,11 @@ impl Graph for SpaceGraph {
         next_in(self.anchors.as_slice(), place)
     }
 
-    fn remembered_count(&self) -> u32 {
-        self.remembered.len() as u32
+    fn remembered_count(&self) -> u64 {
+        self.remembered.len() as u64
     }
 
-    fn remembered(&self, n: u32) -> Option<BlockId> {
+    fn remembered(&self, n: u64) -> Option<BlockId> {
         self.remembered.get(n as usize).copied()
     }
 
