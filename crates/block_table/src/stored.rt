@@ -124,12 +124,14 @@ impl EscapedBlock {
 
     /// The first block that a word refers to, from a place on, and the place after it. O(1) where no Strong word is left.
     pub fn next_word(&self, at: u32) -> Option<(BlockId, u32)>
-        ensures { NextOf (map in_word self.now.kept.words) at result }
+        ensures next { NextOf (map in_word self.now.kept.words) at result }
+        ensures few { length self.now.kept.words ≤ 4096 }
     {
+        let len = self.len();
         let Some(first) = self.layout.strong_after(at) else {
             return None;
         };
-        for place in first..self.len() {
+        for place in first..len {
             if let Some(id) = self.reference(place) {
                 return Some((id, place + 1));
             }

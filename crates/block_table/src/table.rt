@@ -206,10 +206,22 @@ impl BlockTable {
     /// The first block that a word refers to, from a place on, and the place after it; None where there is none, or no
     /// such block. It looks at Strong words alone.
     pub fn next_word(&self, id: BlockId, at: u32) -> Option<(BlockId, u32)>
-        ensures { NextOf (map in_word (words_in self.now.blocks id)) at result }
+        ensures next { NextOf (map in_word (words_in self.now.blocks id)) at result }
+        ensures few { length (words_in self.now.blocks id) ≤ 4096 }
     {
         match self.stored.get(&id) {
             Some(stored) => stored.next_word(at),
+            None => None,
+        }
+    }
+
+    /// The same of the block at a position; None too where there is none. It looks no id up.
+    pub fn nth_next_word(&self, n: u32, at: u32) -> Option<(BlockId, u32)>
+        ensures next { NextOf (map in_word (option_map_or (words_in self.now.blocks) (slice_get self.now.order n) [])) at result }
+        ensures few { length (option_map_or (words_in self.now.blocks) (slice_get self.now.order n) []) ≤ 4096 }
+    {
+        match self.stored.get_index(n as usize) {
+            Some((_, stored)) => stored.next_word(at),
             None => None,
         }
     }

@@ -1,17 +1,22 @@
 -- What a walk reads and changes by position
-use Rattle.std.proofs.Common.{◌≡◌, ℕ, zero, suc, ◌+◌, ◌-◌, ◌<◌, ◌≤◌, ◌++◌, ◌&&◌, Bool, true, false, cond, List, [], ◌∷◌, Option, Some, None, MatchOption, filter, length, take, drop, slice_get, is_some, IsSome, refl, sym, ap, ◌∙◌, subst, arith}
+use Rattle.std.proofs.Common.{◌≡◌, ℕ, zero, suc, ◌+◌, ◌-◌, ◌<◌, ◌≤◌, ◌++◌, ◌&&◌, Bool, true, false, cond, List, [], ◌∷◌, Option, Some, None, MatchOption, filter, length, map, min, take, drop, ◌⊎◌, inl, inr, slice_get, is_some, IsSome, refl, sym, ap, ◌∙◌, subst, arith}
 use Rattle.std.specs.Option.{option_map_or, option_to_list}
-use Rattle.std.specs.FinMap.{FinMap, insert}
+use Rattle.std.specs.FinMap.{FinMap, empty_of_len, get, get-empty, insert, len}
+use Rattle.az_base.specs.declared.numbers.Key.{Key}
+use Rattle.az_base.specs.Places.{pair_cmp}
+use Rattle.assoc_refs.specs.Table.{pairs_of}
 use Rattle.az_base.specs.declared.action.Mode.{Mode}
 use Rattle.az_base.specs.declared.block_id.BlockId.{BlockId}
 use Rattle.az_base.specs.Ids.{id_cmp}
-use Rattle.block_table.specs.Places.{PlaceOf}
+use Rattle.block_table.specs.Places.{NextOf, PlaceOf, somes}
+use Rattle.block_table.proofs.Somes.{past}
 use Rattle.block_table.specs.Table.{Table, shades_in}
 use Rattle.quantum_space.specs.declared.shade.Shade.{Shade}
 use Rattle.quantum_space.specs.declared.shade.Shade.TheVariants as shade
 use Rattle.quantum_space.specs.Shapes.{Has, Visits, WithShade, is_left_white, is_taken, is_unmarked}
-use Rattle.heap_tables.specs.Graphs.{graph_of, shades_of}
+use Rattle.heap_tables.specs.Graphs.{graph_of, shades_of, value_of}
 use Rattle.heap_tables.specs.declared.tables.Tables.{Tables}
+use Rattle.heap_tables.proofs.Showing.{value_edge}
 use Rattle.heap_tables.proofs.Fronts.{take_has, has_take, shaded_one}
 
 -- what stands in a front
@@ -140,3 +145,39 @@ left_told m t id n a at is = one_left (is_left_white m (graph_of t) (shades_of t
 
 pub there_front : (xs : List BlockId) (b n : ℕ) (id : BlockId) → Some id ≡ slice_get (take b xs) n → IsSome (slice_get xs n)
 there_front xs b n id at = ap is_some (front_get xs b n id at)
+
+-- past the greatest place of a list nothing stands, wherever one looks
+pub from_least : (xs : List (Option BlockId)) (place at : ℕ) (x : Option (BlockId × ℕ)) → length xs ≤ 4096 → at ≡ min place 4096 → NextOf xs at x → NextOf xs place x
+from_least xs place at x few is next = elim (order place 4096) [
+  | inl le ↦ (let same : at ≡ place = is ∙ least place le in subst (λ n. NextOf xs n x) same next)
+  | inr ge ↦ (let same : at ≡ 4096 = is ∙ most place ge in
+      let here : drop at xs ≡ [] = past xs at (omega (arith, same, few)) in
+      let there : drop place xs ≡ [] = past xs place (omega (arith, ge, few)) in
+      subst (λ l. MatchOption x (somes l ≡ []) (λ y. (somes l ≡ y.0 ∷ somes (drop y.1 xs)) × (y.1 ≤ length xs))) (here ∙ sym there) next)
+]
+  where
+    order : (a b : ℕ) → (a ≤ b) ⊎ (b ≤ a)
+    order zero b = inl (omega arith)
+    order (suc a) zero = inr (omega arith)
+    order (suc a) (suc b) = elim (order a b) [ inl h ↦ inl (omega (arith, h)) | inr h ↦ inr (omega (arith, h)) ]
+
+    least : (a : ℕ) → a ≤ 4096 → min a 4096 ≡ a
+    least a h = omega (arith, h)
+
+    most : (a : ℕ) → 4096 ≤ a → min a 4096 ≡ 4096
+    most a h = omega (arith, h)
+
+-- where there are no associations, an object has no values
+pub no_values : (m : FinMap pair_cmp BlockId) (id : BlockId) → len m ≡ 0 → pairs_of m id ≡ []
+no_values m id h = go (pairs_of m id) refl
+  where
+    nothing : (b : BlockId) → ¬ Has (somes (map value_of (pairs_of m id))) b
+    nothing b k =
+        let e = value_edge m id b k in
+        let none : get m (id, e.0) ≡ None = ap (λ n. get n (id, e.0)) (empty_of_len m h) ∙ get-empty pair_cmp (id, e.0) in
+        let no : None ≡ Some b = sym none ∙ e.1 in
+        cc
+
+    go : (ps : List (Key × BlockId)) → pairs_of m id ≡ ps → ps ≡ []
+    go [] e = refl
+    go (p ∷ ps) e = absurd (nothing p.1 (subst (λ (l : List (Key × BlockId)). Has (somes (map value_of l)) p.1) (sym e) (inl refl)))

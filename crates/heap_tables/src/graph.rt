@@ -2,7 +2,7 @@
 use crate::cursors::next_some;
 use crate::tables::Tables;
 use az_base::{BlockId, Mode};
-use quantum_space::{Graph, Shade};
+use quantum_space::{Found, Graph, Shade};
 
 impl Graph for Tables {
     ghost use Rattle.std.specs.Prelude.{◌≡◌, ◌+◌, ◌≤◌, ◌<◌, ◌^◌, length};
@@ -99,10 +99,7 @@ impl Graph for Tables {
     }
 
     fn edge_from(&self, id: BlockId, place: u64) -> Option<(BlockId, u64)> {
-        match self.word_from(id, place) {
-            Some(found) => Some(found),
-            None => self.value_from(id, place),
-        }
+        self.next_edge(id, 0, place)
     }
 
     fn is_young(&self, id: BlockId) -> bool {
@@ -129,6 +126,27 @@ impl Graph for Tables {
         }
         self.blocks.set_nth_shade(n, Shade::Grey);
         Some(n)
+    }
+
+    fn follow(&mut self, id: BlockId, hint: u32, place: u64, mode: Mode) -> Option<Found> {
+        let Some(edge) = self.next_edge(id, hint, place) else {
+            return None;
+        };
+        let hint = self.visit(edge.0, mode);
+        Some(Found {
+            id: edge.0,
+            hint: hint.unwrap_or(0),
+            place: edge.1,
+            is_new: hint.is_some(),
+        })
+    }
+
+    fn blacken(&mut self, id: BlockId, hint: u32) {
+        if self.blocks.nth(hint) == Some(id) {
+            self.blocks.set_nth_shade(hint, Shade::Black);
+        } else {
+            self.blocks.set_shade(id, Shade::Black);
+        }
     }
 
     fn shade_nth(&mut self, n: u32, s: Shade) {

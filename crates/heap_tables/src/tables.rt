@@ -1,5 +1,5 @@
 //! The tables together.
-ghost use Rattle.std.specs.Prelude.{◌≡◌, ◌+◌, ◌≤◌, ◌<◌, ◌^◌, ◌++◌, IsSome, IfOk, MatchOption, map, option_and_then, slice_get, [], drop, false, replicate, None};
+ghost use Rattle.std.specs.Prelude.{◌≡◌, ◌+◌, ◌≤◌, ◌<◌, ◌^◌, ◌++◌, IsSome, IfOk, MatchOption, map, length, option_and_then, slice_get, [], drop, false, replicate, None};
 ghost use Rattle.std.specs.Option.{option_map_or};
 ghost use Rattle.std.specs.FinMap.{empty};
 ghost use Rattle.block_table.specs.Places.{NextOf, in_word, somes};
@@ -97,29 +97,53 @@ impl Tables {
         }
     }
 
-    /// The first block that a word refers to, from a place on.
-    pub(crate) fn word_from(&self, id: BlockId, place: u64) -> Option<(BlockId, u64)>
-        ensures { NextOf (map in_word (words_in self.now.blocks.blocks id)) place result }
+    /// The first block that a word refers to, from a place on, and the place after it. The hint is a position: where the
+    /// block stands there, it isn't looked up.
+    fn next_word(&self, id: BlockId, hint: u32, at: u32) -> Option<(BlockId, u32)>
+        ensures next { NextOf (map in_word (words_in self.now.blocks.blocks id)) at result }
+        ensures few { length (words_in self.now.blocks.blocks id) ≤ 4096 }
     {
-        if place >= u64::from(self.blocks.words(id)) {
-            return None;
+        if self.blocks.nth(hint) == Some(id) {
+            self.blocks.nth_next_word(hint, at)
+        } else {
+            self.blocks.next_word(id, at)
         }
-        match self.blocks.next_word(id, place as u32) {
+    }
+
+    /// The same, from any place on.
+    fn word_from(&self, id: BlockId, hint: u32, place: u64) -> Option<(BlockId, u64)>
+        ensures next { NextOf (map in_word (words_in self.now.blocks.blocks id)) place result }
+        ensures range { MatchOption result (Unit {0}) (λ x. x.1 ≤ 4096) }
+    {
+        match self.next_word(id, hint, place.min(4_096) as u32) {
             Some(found) => Some((found.0, u64::from(found.1))),
             None => None,
         }
     }
 
     /// The first value of an association, from a place on after the words.
-    pub(crate) fn value_from(&self, id: BlockId, place: u64) -> Option<(BlockId, u64)>
+    fn value_from(&self, id: BlockId, place: u64) -> Option<(BlockId, u64)>
         requires { somes (drop place (map in_word (words_in self.now.blocks.blocks id))) ≡ [] }
         ensures { NextOf (edge_places self.now id) place result }
     {
+        if self.assocs.len() == 0 {
+            return None;
+        }
         let words = u64::from(self.blocks.words(id));
         let n = place.saturating_sub(words);
         match self.assocs.nth_of(id, n as usize) {
             Some(found) => Some((found.1, words + n + 1)),
             None => None,
+        }
+    }
+
+    /// The end of the first edge that leads from the block, from a place on, and the place after it. The hint is as above.
+    pub(crate) fn next_edge(&self, id: BlockId, hint: u32, place: u64) -> Option<(BlockId, u64)>
+        ensures { NextOf (edge_places self.now id) place result }
+    {
+        match self.word_from(id, hint, place) {
+            Some(found) => Some(found),
+            None => self.value_from(id, place),
         }
     }
 

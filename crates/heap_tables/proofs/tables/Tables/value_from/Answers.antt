@@ -1,9 +1,10 @@
-use Rattle.std.proofs.Common.{◌≡◌, ◌+◌, ◌∙◌, sym, arith, length, map, refl}
+use Rattle.std.proofs.Common.{◌-◌, ◌≡◌, ◌+◌, ◌∙◌, sym, arith, length, map, refl}
 use Rattle.assoc_refs.specs.Table.{pairs_of}
 use Rattle.block_table.specs.Places.{in_word}
 use Rattle.block_table.specs.Table.{words_in}
 use Rattle.heap_tables.specs.Graphs.{value_of}
-use Rattle.block_table.proofs.Somes.{second_of_two, none_of_two, mapped_at, mapped_past, length_mapped, within_list, none_past}
+use Rattle.block_table.proofs.Somes.{second_of_two, none_of_two, mapped_at, mapped_past, length_mapped, within_list, none_past, none_in_nothing}
+use Rattle.heap_tables.proofs.Walking.{no_values}
 use Rattle.heap_tables.proofs.tables.Tables.value_from.Goals as goal
 
 pub returns-in-Some : goal.returns-in-Some
@@ -30,3 +31,11 @@ returns-in-None c =
     let all : c.from-words.result ≡ length words = c.from-words.ensures ∙ c.words.ensures.value in
     none_of_two (map in_word words) (map value_of pairs) c.args.place n
     c.requires (omega (arith, long, all, c.saturating_sub-n.ensures)) (mapped_past value_of pairs n (none_past pairs n (sym c.nth_of.ensures.value ∙ c.in-None.is)))
+
+pub returns-then-len-eq0 : goal.returns-then-len-eq0
+returns-then-len-eq0 c =
+    let t = c.args.self.now in
+    let words = words_in t.blocks.blocks c.args.id in
+    let nothing = no_values t.assocs.pairs c.args.id (sym c.len.ensures ∙ c.if-len-eq0.true) in
+    none_of_two (map in_word words) (map value_of (pairs_of t.assocs.pairs c.args.id)) c.args.place (c.args.place - length (map in_word words))
+    c.requires refl (rw nothing (none_in_nothing (c.args.place - length (map in_word words))))
