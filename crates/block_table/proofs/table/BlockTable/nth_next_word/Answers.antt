@@ -1,4 +1,4 @@
-use Rattle.std.proofs.Common.{◌≡◌, ◌≤◌, sym, ap, subst, List, [], Option, Some, None, length, map, refl, slice_get, arith}
+use Rattle.std.proofs.Common.{◌≤◌, sym, ap, subst, List, [], Some, None, length, map, arith}
 use Rattle.std.specs.Option.{option_map_or}
 use Rattle.az_base.specs.declared.word.Word.{Word}
 use Rattle.block_table.specs.Places.{NextOf, in_word}

@@ -1,4 +1,4 @@
-use Rattle.std.proofs.Common.{◌≡◌, Some, slice_get, ap, ◌∙◌, sym, rules}
+use Rattle.std.proofs.Common.{◌≡◌, Some, slice_get, ap, ◌∙◌, rules}
 use Rattle.block_table.specs.Table.{Table, shades_in}
 use Rattle.quantum_space.specs.declared.shade.Shade.TheVariants as shade
 use Rattle.heap_tables.proofs.Fronts.{in_whole, shaded_one}
