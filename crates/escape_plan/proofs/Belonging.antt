@@ -17,7 +17,8 @@ use Rattle.zone_model.specs.State.{State, is_own}
 use Rattle.zone_model.proofs.Blocks.{own_inside}
 use Rattle.zone_model.proofs.PartNeeds.{in_part, part_path, path_within}
 use Rattle.zone_model.proofs.Soundness.{sound_intact, escape_sound}
-use Rattle.shared_heap.specs.Shared.{Shared, used_by}
+use Rattle.block_table.specs.Table.{used_by}
+use Rattle.shared_heap.specs.Shared.{Shared}
 use Rattle.shared_heap.proofs.Sums.{used_stands, full_stands}
 use Rattle.shared_heap.proofs.Shut.{holds_its_own}
 use Rattle.local_set.specs.Holds.{word_holds}

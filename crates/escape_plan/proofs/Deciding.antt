@@ -13,7 +13,8 @@ use Rattle.zone_model.specs.Reach.{WordEdge, Path, Leads}
 use Rattle.zone_model.specs.Sound.{Sound}
 use Rattle.zone_model.specs.State.{State}
 use Rattle.shared_heap.specs.Ready.{Ready, with_room}
-use Rattle.shared_heap.specs.Shared.{Shared, used_by}
+use Rattle.block_table.specs.Table.{used_by}
+use Rattle.shared_heap.specs.Shared.{Shared}
 use Rattle.shared_heap.specs.Stands.{Stands}
 use Rattle.shared_heap.proofs.Sums.{full_stands}
 use Rattle.local_set.specs.LocalSets.{LocalSet, part_in, blocks_of}

@@ -20,8 +20,10 @@ use Rattle.zone_model.proofs.Blocks.{is_out, left_get, got_escaped, escape_at, o
 use Rattle.zone_model.proofs.PartChanges.{escaped_part}
 use Rattle.zone_model.proofs.PartNeeds.{in_part, part_has}
 use Rattle.shared_heap.specs.Holding.{holds_of, times_in, is_off, pairs_in, HoldsAgree, HoldsAdmitted, HoldsSet}
-use Rattle.shared_heap.specs.Shared.{Shared, held, admitted, newly}
-use Rattle.shared_heap.specs.Stands.{Stands, escaped_view}
+use Rattle.block_table.specs.Stored.{newly}
+use Rattle.shared_heap.specs.Shared.{Shared, held, admitted}
+use Rattle.heap_tables.specs.Standing.{escaped_view}
+use Rattle.shared_heap.specs.Stands.{Stands}
 use Rattle.shared_heap.specs.Steps.{IsUnescaped}
 use Rattle.shared_heap.proofs.Admitting.{holds_split, still_out}
 use Rattle.shared_heap.proofs.Holding.{held_admitted}

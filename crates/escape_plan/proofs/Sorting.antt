@@ -16,7 +16,8 @@ use Rattle.az_base.specs.Ids.{id_cmp, id_of, among, same_id}
 use Rattle.az_base.proofs.Ids.{same_turned}
 use Rattle.zone_model.specs.Part.{Part}
 use Rattle.zone_model.specs.State.{Block}
-use Rattle.shared_heap.specs.Shared.{Shared, used_by}
+use Rattle.block_table.specs.Table.{used_by}
+use Rattle.shared_heap.specs.Shared.{Shared}
 use Rattle.local_set.specs.Tables.{Distinct}
 use Rattle.local_set.proofs.Lists.{next_taken}
 use Rattle.local_set.proofs.Sorting.{strict}

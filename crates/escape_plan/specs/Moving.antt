@@ -10,7 +10,8 @@ use Rattle.zone_model.specs.Part.{part_of, is_in}
 use Rattle.zone_model.specs.Reached.{OpenReached}
 use Rattle.zone_model.specs.State.{State}
 use Rattle.shared_heap.specs.Holding.{HoldsAgree, HoldsItsOwn, refers_to}
-use Rattle.shared_heap.specs.Shared.{Shared, held, used_by}
+use Rattle.block_table.specs.Table.{used_by}
+use Rattle.shared_heap.specs.Shared.{Shared, held}
 use Rattle.shared_heap.specs.Stands.{Stands}
 use Rattle.local_set.specs.Holds.{outs}
 use Rattle.local_set.specs.LocalSets.{LocalSet, part_in}

@@ -9,7 +9,8 @@ use Rattle.block_layouts.specs.Layouts.{len_of, quanta}
 use Rattle.zone_model.specs.State.{Block}
 use Rattle.zone_model.specs.Reach.{WordEdge}
 use Rattle.zone_model.specs.Part.{Part, EscWithin, is_in}
-use Rattle.shared_heap.specs.Shared.{Shared, used_by}
+use Rattle.block_table.specs.Table.{used_by}
+use Rattle.shared_heap.specs.Shared.{Shared}
 
 -- what a plan is seen as: the ids of its blocks, ascending, and the quanta of these
 pub record Plan : Type 0 where

@@ -19,7 +19,8 @@ use Rattle.zone_model.specs.Step.{Step, Happens, seen_now}
 use Rattle.zone_model.proofs.LocalCalls.{plain_refused}
 use Rattle.zone_model.proofs.Steps.{plain_happens}
 use Rattle.shared_heap.specs.Shared.{Shared, held}
-use Rattle.shared_heap.specs.Stands.{Stands, kept_of, escaped_view}
+use Rattle.heap_tables.specs.Standing.{kept_of, escaped_view}
+use Rattle.shared_heap.specs.Stands.{Stands}
 use Rattle.shared_heap.specs.Steps.{names}
 use Rattle.shared_heap.specs.Holding.{is_block, registers_with, holds_of, is_off, HoldsAgree, HoldsAgreeBut, HoldsMore, HoldsSet, HoldsOnceMore, ReadsTo, pair_of, replaced}
 

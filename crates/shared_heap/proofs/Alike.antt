@@ -5,7 +5,8 @@ use Rattle.zone_model.specs.State.{State, Block, Cycle}
 use Rattle.zone_model.specs.SameShared.{escaped_only, SeesMore, SameShared}
 use Rattle.shared_heap.specs.Collector.{Collecting}
 use Rattle.shared_heap.specs.Shared.{Shared}
-use Rattle.shared_heap.specs.Stands.{Stands, StandsCycle, SameCycle, escaped_view}
+use Rattle.heap_tables.specs.Standing.{escaped_view}
+use Rattle.shared_heap.specs.Stands.{Stands, StandsCycle, SameCycle}
 use Rattle.shared_heap.proofs.Collecting.{seen_more}
 
 view_only : (r : ℕ) (o : Option Block) → escaped_view r o ≡ escaped_view r (escaped_only o)

@@ -1,5 +1,5 @@
 -- What the calls of a cycle have to be, so that they are steps of the states for which the heap stands
-use Rattle.std.proofs.Common.{◌≡◌, ◌≢◌, ◌+◌, ◌-◌, ◌<◌, ◌≤◌, ◌==◌, ℕ, zero, suc, min, Bool, true, false, not, cond, List, [], ◌∷◌, Option, Some, None, IsSome, IsTrue, is_some, option_map, refl, sym, ap, subst, ◌∙◌, arith}
+use Rattle.std.proofs.Common.{◌≡◌, ◌≢◌, ◌+◌, ◌-◌, ◌≤◌, ◌==◌, ℕ, min, Bool, true, false, not, cond, Option, Some, None, IsTrue, option_map, refl, sym, ap, subst, ◌∙◌, arith}
 use Rattle.std.proofs.lemmas.Bool.Decides.{nat_tests}
 use Rattle.std.specs.Option.{option_map_or, option_and_then}
 use Rattle.std.specs.FinMap.{get, retain_keys, empty}
@@ -12,19 +12,20 @@ use Rattle.zone_model.specs.declared.entry.Reply.TheVariants as reply
 use Rattle.zone_model.specs.Collection.{MayCondemn, Reclaims, WasAnchored, new_cycle, shows_one, with_condemned}
 use Rattle.zone_model.specs.Reach.{AnchoredFor}
 use Rattle.zone_model.specs.Room.{WithRoom}
-use Rattle.zone_model.specs.State.{State, Block, Cycle, moment, since_of, is_escaped, is_word_of, with_cycle, without}
-use Rattle.zone_model.specs.Step.{seen_now, with_moment}
+use Rattle.zone_model.specs.State.{State, Block, Cycle, moment, is_escaped, is_word_of, with_cycle, without}
+use Rattle.zone_model.specs.Step.{seen_now}
 use Rattle.zone_model.proofs.Anchoring.{of_moment, to_moment}
 use Rattle.zone_model.proofs.Blocks.{left_get}
 use Rattle.zone_model.proofs.Moments.{seeing, was_now}
 use Rattle.zone_model.proofs.Steps.{step_plain}
 use Rattle.shared_heap.specs.Collector.{Collecting, Collector, shade_in}
-use Rattle.shared_heap.specs.Cycles.{IsOpenOf, IsMarking, Opens, Darkens, Condemned, Reclaimed, older}
+use Rattle.block_table.specs.Stored.{older}
+use Rattle.shared_heap.specs.Cycles.{IsOpenOf, IsMarking, Opens, Darkens, Condemned, Reclaimed}
 use Rattle.shared_heap.specs.Holding.{Serves}
 use Rattle.shared_heap.specs.Shared.{Shared, is_busy, with_gc}
-use Rattle.shared_heap.specs.Stands.{Stands, StandsCycle, SameCycle, kept_of, escaped_view}
+use Rattle.heap_tables.specs.Standing.{escaped_view}
+use Rattle.shared_heap.specs.Stands.{Stands, StandsCycle, SameCycle}
 use Rattle.shared_heap.specs.Steps.{Stepped}
-use Rattle.shared_heap.specs.Stored.{HeapBlock}
 use Rattle.shared_heap.proofs.Agreeing.{here_escaped}
 use Rattle.shared_heap.proofs.Collecting.{none_open, state_cycle}
 use Rattle.shared_heap.proofs.Stepping.{escaped_here}

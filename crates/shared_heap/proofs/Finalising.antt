@@ -1,27 +1,29 @@
 -- A finaliser is a step
-use Rattle.std.proofs.Common.{◌≡◌, ◌+◌, ◌-◌, ◌<◌, ◌≤◌, ◌&&◌, ◌||◌, ◌==◌, ℕ, zero, suc, Bool, true, false, not, cond, List, [], ◌∷◌, Option, Some, None, IsSome, IsTrue, IsFalse, is_some, is_none, option_map, length, length-set, get_or, slice_get, slice_set, find, filter, fold, count_by, refl, sym, ap, subst, ◌∙◌, arith}
+use Rattle.std.proofs.Common.{◌≡◌, ◌&&◌, ◌==◌, ℕ, Bool, true, false, not, cond, List, [], ◌∷◌, Option, Some, None, IsSome, is_some, option_map, length, length-set, get_or, slice_get, slice_set, find, fold, refl, sym, ap, ◌∙◌, arith}
 use Rattle.std.specs.Option.{option_map_or, option_and_then}
 use Rattle.std.specs.List.{AllByRecursion}
 use Rattle.std.specs.FinMap.{get}
 use Rattle.az_base.specs.declared.action.Action.{Action}
 use Rattle.az_base.specs.declared.action.Action.TheVariants as action
 use Rattle.az_base.specs.declared.block_id.BlockId.{BlockId}
-use Rattle.az_base.specs.Ids.{among, same_id}
+use Rattle.az_base.specs.Ids.{same_id}
 use Rattle.zone_model.specs.declared.call.Call.TheVariants as call
 use Rattle.zone_model.specs.declared.entry.Reply.TheVariants as reply
 use Rattle.zone_model.specs.Collection.{actions_of, awaits, with_action, with_finalised}
 use Rattle.zone_model.specs.InRange.{ActionInRange}
 use Rattle.zone_model.specs.Sound.{Sound}
 use Rattle.zone_model.specs.State.{State, Block, Cycle, is_nil, moment, referent, word_at, with_edit}
-use Rattle.zone_model.specs.Step.{seen_now, with_moment}
+use Rattle.zone_model.specs.Step.{seen_now}
 use Rattle.zone_model.proofs.Steps.{step_plain}
-use Rattle.shared_heap.specs.Collector.{Collecting, Collector}
-use Rattle.shared_heap.specs.Cycles.{IsNext, IsSettling, actions_in, after_action, finalised, one_left_less}
+use Rattle.shared_heap.specs.Collector.{Collecting}
+use Rattle.heap_tables.specs.Running.{actions_in}
+use Rattle.shared_heap.specs.Cycles.{IsNext, IsSettling, after_action, finalised, one_left_less}
 use Rattle.shared_heap.specs.Holding.{Serves}
 use Rattle.shared_heap.specs.Shared.{Shared, awaits_in, waits}
-use Rattle.shared_heap.specs.Stands.{Stands, StandsCycle, SameCycle, kept_of, escaped_view}
+use Rattle.heap_tables.specs.Standing.{kept_of, escaped_view}
+use Rattle.shared_heap.specs.Stands.{Stands, SameCycle}
 use Rattle.shared_heap.specs.Steps.{Stepped}
-use Rattle.shared_heap.specs.Stored.{HeapBlock}
+use Rattle.block_table.specs.Stored.{HeapBlock}
 use Rattle.shared_heap.proofs.Collecting.{seen_same, state_cycle}
 use Rattle.shared_heap.proofs.Standing.{edit_get, get_set}
 use Rattle.shared_heap.proofs.Stepping.{same_word}

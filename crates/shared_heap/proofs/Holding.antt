@@ -14,7 +14,7 @@ use Rattle.az_base.specs.declared.word.Word.{Word}
 use Rattle.block_layouts.specs.declared.layout.Layout.{Layout}
 use Rattle.zone_model.specs.declared.entry.Reply.TheVariants as reply
 use Rattle.zone_model.specs.State.{with_edit}
-use Rattle.shared_heap.specs.Holds.{Holds, times, with_times}
+use Rattle.block_table.specs.Holds.{Holds, times, with_times}
 use Rattle.shared_heap.specs.Shared.{Shared, held, holding, holding_more, admitted, with_birth, IsFresh}
 use Rattle.shared_heap.specs.Steps.{names}
 use Rattle.shared_heap.proofs.Counts.{tied}

@@ -28,7 +28,7 @@ use Rattle.zone_model.proofs.Made.{actions_same}
 use Rattle.zone_model.proofs.PartEffects.{effect_part, effect_others}
 use Rattle.zone_model.proofs.Soundness.{sound_intact}
 use Rattle.zone_model.proofs.PartChanges.{edited_others}
-use Rattle.shared_heap.specs.Holds.{Holds, times}
+use Rattle.block_table.specs.Holds.{Holds, times}
 use Rattle.shared_heap.specs.Shared.{Shared, held}
 use Rattle.shared_heap.specs.Holding.{holds_of, HoldsAgree, IsShared, LeavesParts}
 use Rattle.shared_heap.proofs.Agreeing.{outcome}

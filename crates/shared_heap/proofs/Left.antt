@@ -14,8 +14,9 @@ use Rattle.zone_model.specs.Phases.{left_in, left_among}
 use Rattle.zone_model.specs.State.{State, Block, Cycle, is_nil}
 use Rattle.shared_heap.specs.Collector.{Collecting}
 use Rattle.shared_heap.specs.Shared.{Shared, awaits_in, unfinalised_by, waits}
-use Rattle.shared_heap.specs.Stands.{Stands, kept_of, escaped_view}
-use Rattle.shared_heap.specs.Stored.{HeapBlock}
+use Rattle.heap_tables.specs.Standing.{kept_of, escaped_view}
+use Rattle.shared_heap.specs.Stands.{Stands}
+use Rattle.block_table.specs.Stored.{HeapBlock}
 use Rattle.shared_heap.proofs.Collecting.{state_cycle}
 
 -- one more

@@ -1,8 +1,7 @@
 pub mod Counts
-pub mod Filtered
-pub mod Tables
 pub mod Picks
 pub mod Sums
+pub mod Numbers
 pub mod Collecting
 pub mod Standing
 pub mod Escaping
@@ -14,7 +13,6 @@ pub mod Stepping
 pub mod Holding
 pub mod Results
 pub mod Wholes
-pub mod Rooms
 pub mod Births
 pub mod Retained
 pub mod Assocs

@@ -27,7 +27,8 @@ use Rattle.zone_model.specs.Step.{seen_now}
 use Rattle.zone_model.proofs.Steps.{step_plain}
 use Rattle.shared_heap.specs.Ready.{Ready}
 use Rattle.shared_heap.specs.Retained.{count_of, count_at, retain_misuse, release_misuse, count_misuse, take_misuse, recounted, after_retain, after_release}
-use Rattle.shared_heap.specs.Shared.{Shared, used_by}
+use Rattle.block_table.specs.Table.{used_by}
+use Rattle.shared_heap.specs.Shared.{Shared}
 use Rattle.shared_heap.specs.Stands.{Stands, EscapedClosed}
 use Rattle.shared_heap.specs.Steps.{Runs, Stepped}
 use Rattle.shared_heap.specs.Words.{reply_or}

@@ -19,10 +19,11 @@ use Rattle.zone_model.specs.Escape.{with_escaped}
 use Rattle.zone_model.specs.Effect.{new_block, with_new}
 use Rattle.zone_model.specs.Quanta.{is_born_escaped}
 use Rattle.zone_model.specs.Step.{seen_now}
-use Rattle.shared_heap.specs.Holds.{Holds}
-use Rattle.shared_heap.specs.Stored.{HeapBlock}
-use Rattle.shared_heap.specs.Shared.{Shared, new_heap, rooted, written, newly, with_birth, admitted, holding_more}
-use Rattle.shared_heap.specs.Stands.{Stands, kept_of, escaped_view}
+use Rattle.block_table.specs.Holds.{Holds}
+use Rattle.block_table.specs.Stored.{HeapBlock, newly}
+use Rattle.shared_heap.specs.Shared.{Shared, new_heap, rooted, written, with_birth, admitted, holding_more}
+use Rattle.heap_tables.specs.Standing.{kept_of, escaped_view}
+use Rattle.shared_heap.specs.Stands.{Stands}
 use Rattle.shared_heap.specs.Steps.{IsUnescaped}
 use Rattle.shared_heap.proofs.Collecting.{seen_same}
 use Rattle.az_base.proofs.Ids.{same_turned}

@@ -29,10 +29,12 @@ use Rattle.zone_model.specs.Escape.{Need, EscOf}
 use Rattle.zone_model.specs.Misuses.{Named, words_named, null_block, no_word, wrong_class, first_of, misuse_of}
 use Rattle.zone_model.specs.Step.{seen_now}
 use Rattle.zone_model.proofs.Steps.{step_plain, step_misuse}
-use Rattle.shared_heap.specs.Stored.{HeapBlock}
+use Rattle.block_table.specs.Stored.{HeapBlock}
 use Rattle.shared_heap.specs.Cycles.{AfterBarrier, Livens, of_option}
-use Rattle.shared_heap.specs.Shared.{Shared, used_by, written, rooted, stats_in, with_gc}
-use Rattle.shared_heap.specs.Stands.{Stands, EscapedClosed, kept_of, escaped_view}
+use Rattle.block_table.specs.Table.{used_by}
+use Rattle.shared_heap.specs.Shared.{Shared, written, rooted, stats_in, with_gc}
+use Rattle.heap_tables.specs.Standing.{kept_of, escaped_view}
+use Rattle.shared_heap.specs.Stands.{Stands, EscapedClosed}
 use Rattle.shared_heap.specs.Steps.{Runs, Stepped, NeedsWord, first_three, after_write}
 use Rattle.shared_heap.specs.Words.{word_misuse, class_misuse, class_in, is_past, is_other, reply_or}
 use Rattle.shared_heap.specs.Words as own

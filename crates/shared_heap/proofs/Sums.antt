@@ -17,9 +17,11 @@ use Rattle.zone_model.specs.Quanta.{used_quanta, quanta_needed}
 use Rattle.zone_model.specs.Stats.{stats_of}
 use Rattle.zone_model.specs.Misuses.{is_overfull}
 use Rattle.zone_model.proofs.Totals.{total_added}
-use Rattle.shared_heap.specs.Stored.{HeapBlock}
-use Rattle.shared_heap.specs.Shared.{Shared, used_by, number_of, unfinalised_by, newly, waits}
-use Rattle.shared_heap.specs.Stands.{Stands, kept_of}
+use Rattle.block_table.specs.Stored.{HeapBlock, newly}
+use Rattle.block_table.specs.Table.{used_by}
+use Rattle.shared_heap.specs.Shared.{Shared, number_of, unfinalised_by, waits}
+use Rattle.heap_tables.specs.Standing.{kept_of}
+use Rattle.shared_heap.specs.Stands.{Stands}
 use Rattle.shared_heap.proofs.Picks.{total-picked, total-zero}
 
 same_sum : {K : Type 0} {X : Type 0} {R : K → K → Rattle.std.specs.declared.cmp.Ordering.Ordering} (f g : K → X → ℕ) (m : FinMap R X) → ((k : K) (x : X) → f k x ≡ g k x) → total f m ≡ total g m
@@ -57,6 +59,10 @@ unfinalised_more m id k none = total_added ids_total exact_ids (λ id (k : HeapB
 pub waits_once : (layout : Layout) (words : List Word) (actions : List Action) → cond {A = ℕ} (waits (newly layout words actions)) 1 0 ≡ cond {A = ℕ} (is_nil actions) 0 1
 waits_once layout words [] = refl
 waits_once layout words (a ∷ actions) = refl
+
+-- a block takes at least one quantum
+pub one_quantum : (n : ℕ) → 1 ≤ quanta n
+one_quantum n = grind (arith, nat_tests)
 
 -- where nothing escapes, no quanta are needed
 pub none_needed : (z : State) → quanta_needed z (λ _. false) ≡ 0

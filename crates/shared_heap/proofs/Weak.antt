@@ -21,7 +21,8 @@ use Rattle.zone_model.specs.State.{State, with_weak, with_register}
 use Rattle.zone_model.specs.Step.{seen_now}
 use Rattle.zone_model.proofs.Steps.{step_plain}
 use Rattle.shared_heap.specs.Cycles.{Livens, of_option}
-use Rattle.shared_heap.specs.Shared.{Shared, used_by, with_gc}
+use Rattle.block_table.specs.Table.{used_by}
+use Rattle.shared_heap.specs.Shared.{Shared, with_gc}
 use Rattle.shared_heap.specs.Stands.{Stands, EscapedClosed}
 use Rattle.shared_heap.specs.Steps.{Runs, Stepped}
 use Rattle.shared_heap.specs.Weak.{IsPlaced, loc_misuse, showing, shown_in}

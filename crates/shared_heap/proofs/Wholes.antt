@@ -10,7 +10,7 @@ use Rattle.az_base.specs.declared.word.Class.TheVariants as class
 use Rattle.az_base.specs.declared.word.Word.{Word}
 use Rattle.az_base.specs.Ids.{id_cmp}
 use Rattle.block_layouts.specs.Layouts.{class_at}
-use Rattle.shared_heap.specs.Stored.{HeapBlock}
+use Rattle.block_table.specs.Stored.{HeapBlock, IsWhole}
 use Rattle.block_layouts.proofs.Fitting.{class_within}
 use Rattle.block_layouts.specs.Fitting.{Suits, Fits}
 
@@ -20,7 +20,7 @@ HoldsNumber None = ⊥
 HoldsNumber (Some w) = Suits class.Plain w
 
 -- a Plain word holds a number
-pub plain_word : (m : FinMap id_cmp HeapBlock) (id : BlockId) (at : ℕ) → option_and_then (λ (k : HeapBlock). class_at k.layout at) (get m id) ≡ Some class.Plain → IfSome (get m id) (λ k. Fits k.layout k.words)
+pub plain_word : (m : FinMap id_cmp HeapBlock) (id : BlockId) (at : ℕ) → option_and_then (λ (k : HeapBlock). class_at k.layout at) (get m id) ≡ Some class.Plain → IfSome (get m id) IsWhole
     → HoldsNumber (option_and_then (λ (k : HeapBlock). slice_get k.words at) (get m id))
 plain_word m id at plain whole = go (get m id) plain whole
   where
@@ -31,6 +31,6 @@ plain_word m id at plain whole = go (get m id) plain whole
     ]
     of_words k p w (Some v) e = subst (λ c. MatchOption c ⊥ (λ c. Suits c v)) p (w.suit at v e)
 
-    go : (o : Option HeapBlock) → option_and_then (λ (k : HeapBlock). class_at k.layout at) o ≡ Some class.Plain → IfSome o (λ k. Fits k.layout k.words) → HoldsNumber (option_and_then (λ (k : HeapBlock). slice_get k.words at) o)
+    go : (o : Option HeapBlock) → option_and_then (λ (k : HeapBlock). class_at k.layout at) o ≡ Some class.Plain → IfSome o IsWhole → HoldsNumber (option_and_then (λ (k : HeapBlock). slice_get k.words at) o)
     go None p w = cc
-    go (Some k) p w = of_words k p w (slice_get k.words at) refl
+    go (Some k) p w = of_words k p w.words (slice_get k.words at) refl

@@ -1,43 +1,23 @@
 -- Codes of what models show
-use Rattle.std.specs.Prelude.{◌≡◌, ℕ, Bool, true, false, List, Option, None, Some, refl}
+use Rattle.std.specs.Prelude.{◌≡◌, ℕ, Bool, true, false, List, Option, refl}
 use Rattle.std.specs.Coded.{Coded, code_by, coded×, coded_ℕ, coded_list, coded_option, coded_bool}
 use Rattle.std.specs.FinMap.{FinMap}
 use Rattle.std.specs.FinMap as map
-use Rattle.az_base.specs.declared.action.Action.{Action}
 use Rattle.az_base.specs.declared.action.Mode.{Mode}
 use Rattle.az_base.specs.declared.action.Mode.TheVariants as mode
 use Rattle.az_base.specs.declared.block_id.BlockId.{BlockId}
 use Rattle.az_base.specs.declared.options.Options.{Options}
-use Rattle.az_base.specs.declared.word.Word.{Word}
-use Rattle.az_base.specs.Codes.{coded_action, coded_loc, coded_options, coded_word}
+use Rattle.az_base.specs.Codes.{coded_loc, coded_options}
 use Rattle.az_base.specs.Id.{coded_id}
 use Rattle.az_base.specs.Ids.{id_cmp}
 use Rattle.az_base.specs.Places.{pair_cmp, loc_cmp}
-use Rattle.block_layouts.specs.Codes.{coded_layout}
-use Rattle.block_layouts.specs.declared.layout.Layout.{Layout}
 use Rattle.quantum_space.specs.declared.shade.Shade.{Shade}
-use Rattle.quantum_space.specs.declared.shade.Shade.TheVariants as shade
 use Rattle.shared_heap.specs.Collector.{Collecting, Collector}
-use Rattle.shared_heap.specs.Holds.{Holds}
-use Rattle.shared_heap.specs.Stored.{HeapBlock, Held}
-use Rattle.shared_heap.specs.Table.{Table}
+use Rattle.block_table.specs.Codes.{coded_holds, coded_kept, coded_shade}
+use Rattle.block_table.specs.Holds.{Holds}
+use Rattle.block_table.specs.Stored.{HeapBlock}
 use Rattle.shared_heap.specs.Ready.{Ready, coded_ready}
 use Rattle.shared_heap.specs.Shared.{Shared}
-
-abbrev pub coded_holds : Coded Holds
-coded_holds = map.code coded_ℕ coded_ℕ
-
-abbrev pub coded_kept : Coded HeapBlock
-coded_kept = code_by (Layout × (List Word × (List Action × (Bool × ℕ)))) (coded× coded_layout (coded× (coded_list coded_word) (coded× (coded_list coded_action) (coded× coded_bool coded_ℕ))))
-    (λ k. (k.layout, (k.words, (k.actions, (k.finalised, k.age)))))
-    (λ p. record { layout = p.0; words = p.1.0; actions = p.1.1.0; finalised = p.1.1.1.0; age = p.1.1.1.1 }) (λ _. refl)
-
-abbrev pub coded_held : Coded Held
-coded_held = code_by (HeapBlock × Holds) (coded× coded_kept coded_holds) (λ h. (h.kept, h.holds)) (λ p. record { kept = p.0; holds = p.1 }) (λ _. refl)
-
-abbrev pub coded_table : Coded Table
-coded_table = code_by (FinMap id_cmp HeapBlock × (FinMap id_cmp Holds × ℕ)) (coded× (map.code coded_id coded_kept) (coded× (map.code coded_id coded_holds) coded_ℕ))
-    (λ t. (t.blocks, (t.holds, t.spare))) (λ p. record { blocks = p.0; holds = p.1.0; spare = p.1.1 }) (λ _. refl)
 
 -- of the counts, the associations and the weak locations
 abbrev coded_counts : Coded (FinMap id_cmp ℕ)
@@ -63,24 +43,6 @@ mode_again mode.Young = refl
 
 abbrev pub coded_mode : Coded Mode
 coded_mode = code_by Bool coded_bool mode_code mode_back mode_again
-
-abbrev shade_code : Shade → Option Bool
-shade_code shade.White = None
-shade_code shade.Grey = Some false
-shade_code shade.Black = Some true
-
-abbrev shade_back : Option Bool → Shade
-shade_back None = shade.White
-shade_back (Some false) = shade.Grey
-shade_back (Some true) = shade.Black
-
-pub shade_again : (f : Shade) → shade_back (shade_code f) ≡ f
-shade_again shade.White = refl
-shade_again shade.Grey = refl
-shade_again shade.Black = refl
-
-abbrev pub coded_shade : Coded Shade
-coded_shade = code_by (Option Bool) (coded_option coded_bool) shade_code shade_back shade_again
 
 abbrev pub coded_collecting : Coded Collecting
 coded_collecting = code_by (ℕ × (Mode × (List BlockId × (FinMap id_cmp Shade × (Option (List BlockId) × (ℕ × ℕ))))))

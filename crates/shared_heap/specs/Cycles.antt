@@ -1,5 +1,5 @@
 -- What the calls of a cycle do, told from what the heap shows
-use Rattle.std.specs.Prelude.{◌≡◌, ◌≢◌, ◌≤◌, ◌+◌, ◌-◌, ◌&&◌, ◌⊎◌, ◌↔◌, ℕ, true, not, List, [], ◌∷◌, Option, None, Some, IsTrue, IsSome, if◌then◌else◌, find, fold, option_map, slice_set, slice_get, min, count_by}
+use Rattle.std.specs.Prelude.{◌≡◌, ◌≢◌, ◌≤◌, ◌-◌, ◌&&◌, ◌⊎◌, ◌↔◌, ℕ, true, not, List, [], ◌∷◌, Option, None, Some, IsTrue, IsSome, if◌then◌else◌, find, fold, option_map, slice_set, slice_get, count_by}
 use Rattle.std.specs.Option.{option_map_or}
 use Rattle.std.specs.List.Sorted.{IsStrictlySortedBy}
 use Rattle.std.specs.FinMap.{FinMap, get, retain_keys, empty}
@@ -19,7 +19,8 @@ use Rattle.zone_model.specs.State.{referent, with_edit, is_word_of}
 use Rattle.zone_model.specs.Collection.{shows_one}
 use Rattle.shared_heap.specs.Collector.{Collecting, Collector, shade_in}
 use Rattle.shared_heap.specs.Shared.{Shared, awaits_in, unfinalised_by, is_old_in, is_young_in}
-use Rattle.shared_heap.specs.Stored.{HeapBlock}
+use Rattle.block_table.specs.Stored.{HeapBlock, older}
+use Rattle.heap_tables.specs.Running.{actions_in}
 
 -- the thread's own cycle is open, and this is it
 abbrev pub IsOpenOf : Shared → ℕ → Collecting → Type 0
@@ -93,10 +94,6 @@ abbrev pub after_action : FinMap id_cmp HeapBlock → BlockId → List (Option B
 after_action blocks b roots (action.Keep g) = slice_set roots g.0 (Some b)
 after_action blocks b roots (action.Pass g at) = slice_set roots g.0 (referent (option_map_or (λ (k : HeapBlock). slice_get k.words at) (get blocks b) None))
 
--- the actions of a block of the heap
-abbrev pub actions_in : FinMap id_cmp HeapBlock → BlockId → List Action
-actions_in blocks b = option_map_or (λ (k : HeapBlock). k.actions) (get blocks b) []
-
 -- one finaliser less is left to run
 abbrev pub one_left_less : Collector → Collector
 one_left_less gc = record gc { cycle = option_map (λ (g : Collecting). record g { left = g.left - 1 }) gc.cycle }
@@ -117,10 +114,6 @@ IsNext h b = (g : Collecting) × (r : List BlockId) × (h.gc.cycle ≡ Some g) �
 abbrev pub AfterFinalise : Shared → Reply → Shared → Type 0
 AfterFinalise h (reply.Finalised b) new = IsNext h b × (new ≡ finalised h b)
 AfterFinalise h _ new = ⊥
-
--- a block, a Reclaim later
-abbrev pub older : HeapBlock → HeapBlock
-older k = record k { age = min (k.age + 1) 3 }
 
 -- a Strong word of the block refers to another one, or an association of it has that one as its value
 abbrev pub HeapEdge : Shared → BlockId → BlockId → Type 0

@@ -1,19 +1,15 @@
 -- What the fields of a heap keep
-use Rattle.std.specs.Prelude.{◌≡◌, ◌≤◌, length, unwrap_or}
+use Rattle.std.specs.Prelude.{◌≡◌, ◌≤◌, unwrap_or}
 use Rattle.std.specs.FinMap.{get}
 use Rattle.az_base.specs.declared.block_id.BlockId.{BlockId}
-use Rattle.shared_heap.specs.Shared.{used_by, number_of, unfinalised_by}
+use Rattle.block_table.specs.Table.{used_by}
+use Rattle.shared_heap.specs.Shared.{unfinalised_by}
 use Rattle.shared_heap.specs.declared.heap.Heap.TheInside.{Inside}
 
 pub record IsHeap (h : Inside) : Type 0 where
-  pub used : used_by h.blocks.blocks ≡ h.used
-  pub fits : h.used ≤ h.options.heap_quanta
-  pub number : number_of h.blocks.blocks ≡ h.number
-  pub unfinalised : unfinalised_by h.blocks.blocks ≡ h.unfinalised
-  -- a block takes at least one quantum
-  pub few : h.number ≤ h.used
-  pub some_wait : h.unfinalised ≤ h.number
-  pub roots : length h.roots.items ≡ 256
-  pub room : length h.room ≤ h.blocks.spare
+  pub fits : used_by h.tables.blocks.blocks ≤ h.options.heap_quanta
+  pub unfinalised : unfinalised_by h.tables.blocks.blocks ≡ h.unfinalised
+  -- a block takes at least one quantum, and at most one finaliser
+  pub some_wait : h.unfinalised ≤ used_by h.tables.blocks.blocks
   -- no count is above the option
-  pub counts : (q : BlockId) → unwrap_or (get h.counts.counts q) 0 ≤ h.options.counts
+  pub counts : (q : BlockId) → unwrap_or (get h.tables.counts.counts q) 0 ≤ h.options.counts

@@ -1,6 +1,3 @@
-pub mod Holds
-pub mod Stored
-pub mod Table
 pub mod Ready
 pub mod Collector
 pub mod Shared

@@ -9,14 +9,15 @@ use Rattle.az_base.specs.declared.word.Word.{Word}
 use Rattle.az_base.specs.Ids.{id_cmp, among}
 use Rattle.az_base.specs.Places.{pair_cmp, loc_cmp}
 use Rattle.block_layouts.specs.declared.layout.Layout.{Layout}
-use Rattle.block_layouts.specs.Layouts.{len_of, quanta, first_words}
+use Rattle.block_layouts.specs.Layouts.{first_words}
 use Rattle.zone_model.specs.declared.entry.Stats.{Stats}
 use Rattle.zone_model.specs.Maps.{total}
 use Rattle.zone_model.specs.State.{is_nil, with_edit}
 use Rattle.shared_heap.specs.Collector.{Collector, no_collector}
-use Rattle.shared_heap.specs.Holds.{Holds, times, with_times}
+use Rattle.block_table.specs.Holds.{Holds, times, with_times}
 use Rattle.shared_heap.specs.Ready.{Ready, unready, with_room}
-use Rattle.shared_heap.specs.Stored.{HeapBlock}
+use Rattle.block_table.specs.Stored.{HeapBlock, newly}
+use Rattle.block_table.specs.Table.{used_by}
 
 pub record Shared : Type 0 where
   pub options : Options
@@ -49,10 +50,6 @@ held h t id = option_map_or (λ m. times m t) (get h.holds id) 0
 -- no thread holds the block
 abbrev pub IsFresh : Shared → BlockId → Type 0
 IsFresh h id = get h.holds id ≡ Some empty
-
--- the quanta of the blocks
-abbrev pub used_by : FinMap id_cmp HeapBlock → ℕ
-used_by blocks = total (λ id k. quanta (len_of k.layout)) blocks
 
 -- how many blocks there are
 abbrev pub number_of : FinMap id_cmp HeapBlock → ℕ
@@ -87,10 +84,6 @@ holding_more h t (Some id) = record h { holds = with_edit h.holds id (λ m. with
 abbrev pub written : Shared → Option BlockId → ℕ → Word → Shared
 written h None at w = h
 written h (Some id) at w = record h { blocks = with_edit h.blocks id (λ k. record k { words = slice_set k.words at w }) }
-
--- a block that has just escaped
-abbrev pub newly : Layout → List Word → List Action → HeapBlock
-newly layout words actions = record { layout = layout; words = words; actions = actions; finalised = false; age = 0 }
 
 -- a new block, which the thread holds once
 abbrev pub with_birth : Shared → ℕ → BlockId → Layout → List Action → Shared

@@ -1,23 +1,15 @@
 -- Which states a heap stands for
-use Rattle.std.specs.Prelude.{◌≡◌, ◌≢◌, ◌-◌, ℕ, min, Option, None, Some, IsTrue, option_map, option_and_then}
+use Rattle.std.specs.Prelude.{◌≡◌, ◌≢◌, ℕ, Option, None, Some, IsTrue}
 use Rattle.std.specs.FinMap.{get}
 use Rattle.az_base.specs.declared.block_id.BlockId.{BlockId}
 use Rattle.az_base.specs.Ids.{among}
 use Rattle.quantum_space.specs.declared.shade.Shade.TheVariants as shade
-use Rattle.zone_model.specs.State.{State, Block, Cycle, is_escaped}
+use Rattle.zone_model.specs.State.{State, Cycle, is_escaped}
 use Rattle.zone_model.specs.Collection.{WasAnchored}
 use Rattle.zone_model.specs.Reach.{Edge}
 use Rattle.shared_heap.specs.Collector.{Collecting, shade_in}
-use Rattle.shared_heap.specs.Stored.{HeapBlock}
+use Rattle.heap_tables.specs.Standing.{escaped_view}
 use Rattle.shared_heap.specs.Shared.{Shared, root_in}
-
--- what the heap keeps of a block, where it has escaped and there were so many Reclaims
-abbrev pub kept_of : ℕ → Block → Option HeapBlock
-kept_of reclaims b = option_map (λ since. record { layout = b.layout; words = b.words; actions = b.actions; finalised = b.finalised; age = min (reclaims - since) 3 }) b.since
-
--- the same of what a state has at an id
-abbrev pub escaped_view : ℕ → Option Block → Option HeapBlock
-escaped_view reclaims o = option_and_then (kept_of reclaims) o
 
 -- a heap's cycle is the state's; and until it is condemned, each block of the start that isn't white was anchored at some moment since it began
 pub record StandsCycle (g : Collecting) (c : Cycle) : Type 0 where

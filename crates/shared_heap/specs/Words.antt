@@ -16,7 +16,8 @@ use Rattle.block_layouts.specs.Layouts.{len_of, class_at, same_class, quanta}
 use Rattle.zone_model.specs.declared.entry.Reply.{Reply}
 use Rattle.zone_model.specs.declared.entry.Reply.TheVariants as reply
 use Rattle.zone_model.specs.Misuses.{Named, pass_place, first_of}
-use Rattle.shared_heap.specs.Shared.{Shared, used_by}
+use Rattle.block_table.specs.Table.{used_by}
+use Rattle.shared_heap.specs.Shared.{Shared}
 
 -- the class of a word, where there is one
 abbrev pub class_in : Shared → BlockId → ℕ → Option Class

@@ -1,4 +1,4 @@
-//! The escaped blocks, the roots, and the running numbers.
+//! The heap: its tables, the weak locations, and the options.
 ghost use Rattle.std.specs.Prelude.{◌≡◌, ◌≤◌, ℕ, IfOk};
 ghost use Rattle.std.specs.FinMap.{contains_key};
 ghost use Rattle.az_base.specs.declared.block_id.BlockId.{BlockId};
@@ -6,7 +6,8 @@ ghost use Rattle.zone_model.specs.declared.call.Call.TheVariants as call;
 ghost use Rattle.zone_model.specs.declared.entry.Reply.TheVariants as reply;
 ghost use Rattle.zone_model.specs.State.{State, opening, is_escaped};
 ghost use Rattle.zone_model.specs.Quanta.{used_quanta};
-ghost use Rattle.shared_heap.specs.Shared.{used_by, stats_in, new_heap};
+ghost use Rattle.block_table.specs.Table.{used_by};
+ghost use Rattle.shared_heap.specs.Shared.{stats_in, new_heap};
 ghost use Rattle.shared_heap.specs.Stands.{Stands};
 ghost use Rattle.shared_heap.specs.Steps.{Runs, Stepped};
 
@@ -20,11 +21,8 @@ mod roots;
 mod weak;
 mod words;
 
-use crate::blocks::Blocks;
-use crate::reserved::Reserved;
-use assoc_refs::Assocs;
 use az_base::{BlockId, NoMemory, Options};
-use retain_table::Counts;
+use heap_tables::Tables;
 use std::alloc::Global;
 use std::marker::Model;
 use weak_table::Weak;
@@ -35,18 +33,10 @@ use zone_model::Stats;
 #[derive(Drop)]
 pub struct Heap {
     options: Options,
-    blocks: Blocks,
-    roots: Vec<Option<BlockId>>,
-    counts: Counts,
-    assocs: Assocs,
+    tables: Tables,
     weak: Weak,
-    /// The small quanta of the blocks.
-    used: u32,
-    /// How many blocks there are.
-    number: u32,
-    /// How many of them have actions and aren't finalised.
+    /// How many of the blocks have actions and aren't finalised.
     unfinalised: u32,
-    room: Reserved,
 }
 
 impl Model for Heap {
@@ -60,7 +50,7 @@ impl Model for Heap {
 
     ghost use Rattle.shared_heap.specs.Inside.{IsHeap};
 
-    ghost view = { λ h. record { options = h.options; blocks = h.blocks.blocks; holds = h.blocks.holds; roots = h.roots.items; counts = h.counts.counts; assocs = h.assocs.pairs; weak = h.weak.shown; ready = record { counts = h.counts.spare; object = h.assocs.ready; value = h.weak.ready }; room = h.room; gc = no_collector } };
+    ghost view = { λ h. record { options = h.options; blocks = h.tables.blocks.blocks; holds = h.tables.blocks.holds; roots = h.tables.roots; counts = h.tables.counts.counts; assocs = h.tables.assocs.pairs; weak = h.weak.shown; ready = record { counts = h.tables.counts.spare; object = h.tables.assocs.ready; value = h.weak.ready }; room = h.tables.blocks.room; gc = no_collector } };
 
     ghost invariant = { IsHeap };
 }
@@ -71,18 +61,12 @@ impl Heap {
         ensures value { IfOk result (λ h. h ≡ new_heap options) }
         ensures stands { IfOk result (λ h. Stands h (opening options)) }
     {
-        let roots = Vec::from_slice(alloc, &[None; 256])?;
+        let tables = Tables::new(alloc)?;
         Ok(Heap {
             options,
-            blocks: Blocks::new(alloc),
-            roots,
-            counts: Counts::new(alloc),
-            assocs: Assocs::new(alloc),
+            tables,
             weak: Weak::new(alloc),
-            used: 0,
-            number: 0,
             unfinalised: 0,
-            room: Reserved::none(alloc),
         })
     }
 
@@ -100,7 +84,9 @@ impl Heap {
         ensures stands { (z : State) → Stands self.now z → result ≡ used_quanta z }
         ensures fits { result ≤ self.now.options.heap_quanta }
     {
-        self.used
+        // It is no more than that, and so fits in 32 bits.
+        let _most = self.options.heap_quanta;
+        self.tables.blocks.used() as u32
     }
 
     /// Whether it is a block of the heap. O(1) expected.
@@ -108,7 +94,7 @@ impl Heap {
         ensures value { result ≡ contains_key self.now.blocks id }
         ensures stands { (z : State) → Stands self.now z → result ≡ is_escaped z id }
     {
-        self.blocks.has(id)
+        self.tables.blocks.has(id)
     }
 
     /// The statistics. O(1).
@@ -117,11 +103,11 @@ impl Heap {
         ensures step { (z : State) (t : ℕ) → Runs self.now z t → Stepped self.now z t call.Stats (reply.Stats result) }
     {
         Stats {
-            blocks: u64::from(self.number),
-            quanta: u64::from(self.used),
-            retained: self.counts.len() as u64,
+            blocks: u64::from(self.tables.blocks.len()),
+            quanta: self.tables.blocks.used(),
+            retained: self.tables.counts.len() as u64,
             weak: self.weak.registered() as u64,
-            assocs: self.assocs.len() as u64,
+            assocs: self.tables.assocs.len() as u64,
         }
     }
 }

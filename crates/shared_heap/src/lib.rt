@@ -31,23 +31,17 @@
 //!
 //! # Parts
 //!
-//! - `EscapedBlock` is what is kept of one: layout, words, actions, and `Holders`, how often each thread holds it, of which the
-//!   first takes no memory.
-//! - `Blocks` is the table of the records, with room that can be taken before it is needed; `Reserved` says for which
-//!   lengths.
-//! - `Heap` adds the roots, the tables of counts, associations and weak locations, the options and the running numbers.
+//! - The tables of the escaped blocks, the roots, the counts and the associations are those of `heap_tables`, which a
+//!   collection walks.
+//! - `Heap` adds the weak locations, the options and how many finalisers wait.
 //! - `laws` has theorems over heaps and states: what callers may rest on without knowing how a heap keeps things.
 //!
 //! That blocks are private until they escape is from Domani, Goldshtein, Kolodner, Lewis, Petrank and Sheinwald,
 //! "Thread-Local Heaps for Java" (2002); Apple's libauto has it for Objective-C, whose calls these follow.
 #![tactic(auto)]
 
-mod blocks;
 mod heap;
-mod holders;
 mod laws;
-mod reserved;
-mod stored;
 
 pub use heap::Heap;
 pub use laws::{

@@ -20,9 +20,10 @@ use Rattle.zone_model.proofs.Blocks.{got_escaped}
 use Rattle.zone_model.proofs.PartEffects.{out_not_own}
 use Rattle.zone_model.proofs.PartNeeds.{in_part}
 use Rattle.shared_heap.specs.Shared.{Shared}
-use Rattle.shared_heap.specs.Stands.{Stands, kept_of, escaped_view}
+use Rattle.heap_tables.specs.Standing.{kept_of, escaped_view}
+use Rattle.shared_heap.specs.Stands.{Stands}
 use Rattle.shared_heap.specs.Steps.{after_write}
-use Rattle.shared_heap.specs.Stored.{HeapBlock}
+use Rattle.block_table.specs.Stored.{HeapBlock}
 use Rattle.shared_heap.specs.Words.{word_misuse, class_misuse}
 use Rattle.local_set.specs.LocalSets.{LocalSet, part_in}
 use Rattle.escape_plan.specs.Together.{Together}

@@ -8,15 +8,14 @@ ghost use Rattle.zone_model.specs.Reached.{OpenReached};
 ghost use Rattle.zone_model.specs.State.{State};
 ghost use Rattle.zone_model.specs.Escape.{with_escaped};
 ghost use Rattle.shared_heap.specs.Holding.{HoldsAdmitted, HoldsSet};
-ghost use Rattle.shared_heap.specs.Shared.{held, used_by, holding, admitted, with_gc, IsFresh};
+ghost use Rattle.block_table.specs.Table.{used_by};
+ghost use Rattle.shared_heap.specs.Shared.{held, holding, admitted, with_gc, IsFresh};
 ghost use Rattle.shared_heap.specs.Cycles.{Livens, blocks_in};
 ghost use Rattle.shared_heap.specs.Stands.{Stands};
 ghost use Rattle.shared_heap.specs.Steps.{IsUnescaped};
 ghost use Rattle.block_layouts.specs.Fitting.{Fits};
 
 use crate::heap::Heap;
-use crate::reserved::Reserved;
-use crate::stored::EscapedBlock;
 use az_base::{BlockId, NoMemory, ThreadNo, Word};
 use block_layouts::Layout;
 use std::alloc::Global;
@@ -29,17 +28,14 @@ impl Heap {
         ensures ok { OnOk result (self.new ≡ record self.old { room = lengths.now }) }
         ensures err { OnErr result (self.new ≡ self.old) }
     {
-        let room = Reserved::of(alloc, lengths)?;
-        self.blocks.reserve(lengths.len())?;
-        self.room = room;
-        Ok(())
+        self.tables.blocks.reserve(lengths)
     }
 
     /// Gives up the room that is left.
     pub fn unreserve(&mut self)
         ensures { self.new ≡ record self.old { room = [] } }
     {
-        self.room.clear();
+        self.tables.blocks.unreserve();
     }
 
     /// An unescaped block, without actions, escapes: it is next in the room, and nobody holds it yet. While a cycle marks,
@@ -56,14 +52,8 @@ impl Heap {
         ensures used { used_by self.new.blocks ≡ used_by self.old.blocks + quanta (len_of layout) }
         ensures stands { (z : State) → Stands self.old z → OpenReached z → IsUnescaped z id layout words.items → Stands self.new (with_escaped z (same_id id)) }
     {
-        let alloc = *words.allocator();
-        self.used += layout.quanta();
-        self.number += 1;
-        self.room.take();
-        let stored = EscapedBlock::new(alloc, layout, words, Vec::new(alloc));
-        let Ok(()) = self.blocks.add(id, stored) else {
-            unreachable!()
-        };
+        let actions = Vec::new(*words.allocator());
+        self.tables.blocks.insert(id, layout, words, actions, None);
     }
 
     /// From now on the thread holds the block `n` times. O(1) expected, and O(threads that hold the block).
@@ -75,6 +65,6 @@ impl Heap {
         ensures err { OnErr result (self.new ≡ self.old) }
         ensures sure { (n ≡ 0) ⊎ ((0 < held self.old t id) ⊎ IsFresh self.old id) → IsOk result }
     {
-        self.blocks.set_times(t, id, n)
+        self.tables.blocks.set_times(t, id, n)
     }
 }

@@ -41,7 +41,7 @@ impl Heap {
         let Some(object) = object else {
             return Ok(Reply::Misuse(Misuse::NullBlock));
         };
-        let before = self.assocs.set(object, key, value)?;
+        let before = self.tables.assocs.set(object, key, value)?;
         Ok(Reply::Block(before))
     }
 
@@ -63,7 +63,7 @@ impl Heap {
         let Some(object) = object else {
             return Ok(Reply::Misuse(Misuse::NullBlock));
         };
-        let value = self.assocs.get(object, key);
+        let value = self.tables.assocs.get(object, key);
         self.hold_more(t, &value)?;
         Ok(Reply::Block(value))
     }

@@ -1,21 +1,20 @@
 //! Blocks that are born escaped.
-ghost use Rattle.std.specs.Prelude.{◌≡◌, ◌≤◌, ◌+◌, ℕ, [], None, true, IfOk, IfSome, OnOk, OnErr, ◌==◌, if◌then◌else◌};
-ghost use Rattle.std.specs.FinMap.{get, empty};
+ghost use Rattle.std.specs.Prelude.{◌≡◌, ◌≤◌, ◌+◌, ℕ, [], None, true, IfOk, IfSome, OnOk, OnErr, ◌==◌, if◌then◌else◌, length};
+ghost use Rattle.std.specs.FinMap.{get};
 ghost use Rattle.std.specs.List.{list_any};
 ghost use Rattle.az_base.specs.declared.block_id.BlockId.{BlockId};
-ghost use Rattle.block_layouts.specs.Layouts.{len_of, quanta, first_words};
+ghost use Rattle.block_layouts.specs.Layouts.{len_of, quanta};
 ghost use Rattle.zone_model.specs.declared.call.Call.TheVariants as call;
 ghost use Rattle.zone_model.specs.declared.entry.Reply.TheVariants as reply;
 ghost use Rattle.zone_model.specs.Quanta.{is_born_escaped};
 ghost use Rattle.zone_model.specs.State.{State, is_nil};
-ghost use Rattle.shared_heap.specs.Holds.{with_times};
 ghost use Rattle.shared_heap.specs.Holding.{HoldsBorn};
-ghost use Rattle.shared_heap.specs.Shared.{held, used_by, with_birth, newly};
+ghost use Rattle.block_table.specs.Table.{used_by};
+ghost use Rattle.shared_heap.specs.Shared.{held, with_birth};
 ghost use Rattle.shared_heap.specs.Steps.{Runs, Stepped, next_id, after_birth, names};
 ghost use Rattle.shared_heap.specs.Words.{passes_past, passes_other, is_full, birth_misuse, PlansBirth, reply_or};
 
 use crate::heap::Heap;
-use crate::stored::EscapedBlock;
 use az_base::{Action, BlockId, Class, Misuse, NoMemory, ThreadNo};
 use block_layouts::Layout;
 use std::alloc::Global;
@@ -115,7 +114,7 @@ impl Heap {
     fn is_full(&self, quanta: u32) -> bool
         ensures { result ≡ is_full self.now quanta }
     {
-        u64::from(self.options.heap_quanta) < u64::from(self.used) + u64::from(quanta)
+        u64::from(self.options.heap_quanta) < self.tables.blocks.used() + u64::from(quanta)
     }
 
     /// A new block, which the thread holds once.
@@ -130,15 +129,16 @@ impl Heap {
         requires room { self.old.room ≡ [] }
         requires absent { get self.old.blocks id ≡ None }
         requires fits { used_by self.old.blocks + quanta (len_of layout.now) ≤ self.old.options.heap_quanta }
+        requires few { length actions.now ≤ 8 }
         ensures ok { OnOk result (self.new ≡ with_birth self.old t id layout.now actions.now) }
         ensures err { OnErr result (self.new ≡ self.old) }
     {
-        let quanta = layout.quanta();
         let waiting = waiting(actions);
-        let stored = born(alloc, t, layout, actions)?;
-        self.blocks.add(id, stored)?;
-        self.used += quanta;
-        self.number += 1;
+        let words = layout.first_words(alloc)?;
+        let actions = Vec::from_slice(alloc, actions)?;
+        let own = layout.try_copy(alloc)?;
+        self.tables.blocks.reserve(&[layout.len()])?;
+        self.tables.blocks.insert(id, own, words, actions, Some(t));
         self.unfinalised += waiting;
         Ok(())
     }
@@ -149,25 +149,4 @@ fn waiting(actions: &[Action]) -> u32
     ensures { result ≡ (if is_nil actions.now then 0 else 1) }
 {
     if actions.is_empty() { 0 } else { 1 }
-}
-
-/// A block at its birth, which the thread holds once.
-fn born(
-    alloc: Global,
-    t: ThreadNo,
-    layout: &Layout,
-    actions: &[Action],
-) -> Result<EscapedBlock, NoMemory>
-    ensures kept { IfOk result (λ s. s.kept ≡ newly layout.now (first_words layout.now) actions.now) }
-    ensures holds { IfOk result (λ s. s.holds ≡ with_times empty t 1) }
-{
-    let words = layout.first_words(alloc)?;
-    let layout = layout.try_copy(alloc)?;
-    let actions = Vec::from_slice(alloc, actions)?;
-    let mut stored = EscapedBlock::new(alloc, layout, words, actions);
-    // Nobody holds it yet, and one thread takes no memory.
-    let Ok(()) = stored.set_times(t, 1) else {
-        unreachable!()
-    };
-    Ok(stored)
 }

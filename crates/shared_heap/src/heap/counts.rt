@@ -5,7 +5,8 @@ ghost use Rattle.az_base.specs.declared.block_id.BlockId.{BlockId};
 ghost use Rattle.zone_model.specs.declared.call.Call.TheVariants as call;
 ghost use Rattle.zone_model.specs.declared.entry.Reply.TheVariants as reply;
 ghost use Rattle.zone_model.specs.State.{State};
-ghost use Rattle.shared_heap.specs.Shared.{held, used_by};
+ghost use Rattle.block_table.specs.Table.{used_by};
+ghost use Rattle.shared_heap.specs.Shared.{held};
 ghost use Rattle.shared_heap.specs.Stands.{EscapedClosed};
 ghost use Rattle.shared_heap.specs.Holding.{HoldsMore};
 ghost use Rattle.shared_heap.specs.Steps.{Runs, Stepped, after_read, names};
@@ -49,7 +50,7 @@ impl Heap {
         ensures step { (z : State) (reg : ℕ) → Runs self.now z t → z.registers t reg ≡ id → Stepped self.now z t (call.Count reg) result }
     {
         match id {
-            Some(id) => Reply::Number(u64::from(self.counts.count(id))),
+            Some(id) => Reply::Number(u64::from(self.tables.counts.count(id))),
             None => Reply::Misuse(Misuse::NullBlock),
         }
     }
@@ -65,7 +66,7 @@ impl Heap {
         ensures err { OnErr result (self.new ≡ self.old) }
     {
         let id = &id;
-        if self.counts.count(*id) == 0 {
+        if self.tables.counts.count(*id) == 0 {
             return Ok(Reply::Misuse(Misuse::NotHeld));
         }
         let value = Some(*id);
@@ -85,7 +86,7 @@ impl Heap {
         let Some(id) = id else {
             return Ok(Reply::Misuse(Misuse::NullBlock));
         };
-        match self.counts.raise(id, limit) {
+        match self.tables.counts.raise(id, limit) {
             Ok(count) => Ok(Reply::Number(u64::from(count))),
             Err(Raise::CountFull) => Ok(Reply::Misuse(Misuse::CountFull)),
             Err(Raise::NoMemory) => Err(NoMemory),
@@ -100,7 +101,7 @@ impl Heap {
         let Some(id) = id else {
             return Reply::Misuse(Misuse::NullBlock);
         };
-        match self.counts.lower(id) {
+        match self.tables.counts.lower(id) {
             Ok(count) => Reply::Number(u64::from(count)),
             Err(_) => Reply::Misuse(Misuse::OverRelease),
         }

@@ -136,6 +136,6 @@ impl Heap {
     pub(crate) fn idle(&self)
         ensures { self.now.gc ≡ no_collector }
     {
-        let _ = &self.blocks;
+        let _ = &self.tables;
     }
 }

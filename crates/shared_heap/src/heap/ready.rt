@@ -23,7 +23,7 @@ impl Heap {
         ensures err { OnErr result (self.new ≡ record self.old { ready = self.new.ready }) }
         ensures stands { (z : State) → Stands self.old z → Stands self.new z }
     {
-        self.counts.reserve_one()?;
+        self.tables.counts.reserve_one()?;
         self.ready_object(object)?;
         self.ready_value(value)
     }
@@ -34,7 +34,7 @@ impl Heap {
         ensures err { OnErr result (self.new ≡ self.old) }
     {
         match object {
-            Some(object) => self.assocs.reserve_one(object),
+            Some(object) => self.tables.assocs.reserve_one(object),
             None => Ok(()),
         }
     }

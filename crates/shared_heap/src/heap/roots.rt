@@ -24,7 +24,8 @@ impl Heap {
         ensures gc { Livens self.old.gc self.new.gc (of_option value) [] }
         ensures step { (z : State) (from : ℕ) → Runs self.old z t → EscapedClosed z → z.registers t from ≡ value → Stepped self.new z t (call.SetRoot root from) result }
     {
-        self.roots[root.0 as usize] = value;
+        let _roots = self.tables.roots.as_slice();
+        self.tables.roots.set(root, value);
         Reply::Done
     }
 
@@ -37,7 +38,7 @@ impl Heap {
         ensures step { IfOk result (λ r. (z : State) (to : ℕ) → Runs self.old z t → Stepped self.new z t (call.GetRoot to root) r) }
         ensures err { OnErr result (self.new ≡ self.old) }
     {
-        let value = self.roots[root.0 as usize];
+        let value = self.tables.roots.get(root);
         self.hold_more(t, &value)?;
         Ok(Reply::Block(value))
     }
@@ -51,9 +52,9 @@ impl Heap {
         let Some(id) = value else {
             return Ok(());
         };
-        let Some(times) = self.blocks.times(t, *id).checked_add(1) else {
+        let Some(times) = self.tables.blocks.times(t, *id).checked_add(1) else {
             return Err(NoMemory);
         };
-        self.blocks.set_times(t, *id, times)
+        self.tables.blocks.set_times(t, *id, times)
     }
 }

@@ -7,7 +7,8 @@ ghost use Rattle.zone_model.specs.declared.call.Loc.{Loc};
 ghost use Rattle.zone_model.specs.declared.entry.Reply.TheVariants as reply;
 ghost use Rattle.zone_model.specs.Effect.{weak_loc};
 ghost use Rattle.zone_model.specs.State.{State};
-ghost use Rattle.shared_heap.specs.Shared.{held, used_by, with_gc};
+ghost use Rattle.block_table.specs.Table.{used_by};
+ghost use Rattle.shared_heap.specs.Shared.{held, with_gc};
 ghost use Rattle.shared_heap.specs.Stands.{EscapedClosed};
 ghost use Rattle.shared_heap.specs.Holding.{HoldsMore};
 ghost use Rattle.shared_heap.specs.Steps.{Runs, Stepped, after_read, names};
@@ -79,7 +80,7 @@ impl Heap {
         ensures value { result ≡ shown_in self.now value }
         ensures less { IfSome result (λ b. value ≡ Some b) }
     {
-        let _ = &self.blocks;
+        let _ = &self.tables;
         value
     }
 

@@ -9,7 +9,8 @@ ghost use Rattle.zone_model.specs.declared.call.Call.TheVariants as call;
 ghost use Rattle.zone_model.specs.declared.entry.Reply.TheVariants as reply;
 ghost use Rattle.zone_model.specs.State.{State, reference, referent};
 ghost use Rattle.shared_heap.specs.Cycles.{AfterBarrier, of_option};
-ghost use Rattle.shared_heap.specs.Shared.{held, used_by, with_gc};
+ghost use Rattle.block_table.specs.Table.{used_by};
+ghost use Rattle.shared_heap.specs.Shared.{held, with_gc};
 ghost use Rattle.shared_heap.specs.Stands.{Stands, EscapedClosed};
 ghost use Rattle.shared_heap.specs.Holding.{HoldsMore};
 ghost use Rattle.shared_heap.specs.Steps.{Runs, Stepped, NeedsWord, first_three, after_read, after_write, names};
@@ -59,7 +60,7 @@ impl Heap {
         let Some(id) = id else {
             return Err(Misuse::NullBlock);
         };
-        match self.blocks.class_at(id, at) {
+        match self.tables.blocks.class_at(id, at) {
             None => Err(Misuse::NoWord),
             Some(found) if found == class => Ok(id),
             Some(_) => Err(Misuse::WrongClass),
@@ -152,7 +153,7 @@ impl Heap {
         match self.find_word(into, at, class) {
             Err(misuse) => Reply::Misuse(misuse),
             Ok(id) => {
-                self.blocks.set_word(id, at, word);
+                self.tables.blocks.set_word(id, at, word);
                 Reply::Done
             }
         }
@@ -162,7 +163,7 @@ impl Heap {
     fn referent_at(&self, id: BlockId, at: u32) -> Option<BlockId>
         ensures { result ≡ referent (word_in self.now (Some id) at) }
     {
-        match self.blocks.word(id, at) {
+        match self.tables.blocks.word(id, at) {
             Some(word) => referent(word),
             None => None,
         }
@@ -173,7 +174,7 @@ impl Heap {
         requires { class_in self.now id at ≡ Some class.Plain }
         ensures { word_in self.now (Some id) at ≡ Some (words.Number result) }
     {
-        match self.blocks.word(id, at) {
+        match self.tables.blocks.word(id, at) {
             Some(word) => number(word),
             None => unreachable!(),
         }

@@ -9,7 +9,8 @@ use Rattle.zone_model.proofs.Blocks.{left_get}
 use Rattle.zone_model.specs.Part.{Part}
 use Rattle.zone_model.specs.State.{Block, State}
 use Rattle.shared_heap.specs.Holding.{HoldsSet}
-use Rattle.shared_heap.specs.Shared.{Shared, used_by}
+use Rattle.block_table.specs.Table.{used_by}
+use Rattle.shared_heap.specs.Shared.{Shared}
 use Rattle.local_set.specs.LocalSets.{LocalSet, part_in}
 use Rattle.escape_plan.specs.Moving.{CanTell, refer_to, Told}
 use Rattle.escape_plan.specs.Planning.{quanta_at}

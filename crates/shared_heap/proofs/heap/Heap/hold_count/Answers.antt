@@ -1,8 +1,8 @@
 use Rattle.std.proofs.Common.{◌∙◌, ap}
 use Rattle.std.specs.Option.{option_map_or}
-use Rattle.std.specs.FinMap.{FinMap, get}
-use Rattle.az_base.specs.Ids.{id_cmp}
-use Rattle.shared_heap.specs.Holds.{Holds, times}
+use Rattle.std.specs.FinMap.{get}
+use Rattle.block_table.specs.Holds.{Holds, times}
+use Rattle.block_table.specs.Table.{Table}
 use Rattle.shared_heap.specs.contracts.heap.Heap.{the_view}
 use Rattle.shared_heap.proofs.Holding.{held_holding}
 use Rattle.shared_heap.proofs.Results.{on_ok}
@@ -11,5 +11,5 @@ use Rattle.shared_heap.proofs.heap.Heap.hold_count.Goals as goal
 pub returns-clause-held : goal.returns-clause-held
 returns-clause-held c = on_ok c.set_times.result (λ is.
     rw (← c.self.view_is) (λ u q.
-    ap (λ (m : FinMap id_cmp Holds). option_map_or (λ (k : Holds). times k u) (get m q) 0) is
+    ap (λ (b : Table). option_map_or (λ (k : Holds). times k u) (get b.holds q) 0) is
     ∙ held_holding (the_view c.self.inside) c.args.t c.args.id c.args.n (c.set_times.ensures.keys ∙ (rw (← c.self.view_is) at c.requires.given)) u q)) c.set_times.ensures.ok

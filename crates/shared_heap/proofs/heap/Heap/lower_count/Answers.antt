@@ -3,13 +3,8 @@ use Rattle.shared_heap.proofs.heap.Heap.lower_count.Goals as goal
 
 pub invariant_of-self : goal.invariant_of-self
 invariant_of-self c = let i = c.self.invariant in record {
-  used = i.used;
   fits = i.fits;
-  number = i.number;
   unfinalised = i.unfinalised;
-  few = i.few;
   some_wait = i.some_wait;
-  roots = i.roots;
-  room = i.room;
-  counts = below_lowered c.lower.result c.self.inside.counts c.lower.new.self c.in-Some.id c.self.inside.options.counts c.lower.ensures.answer c.lower.ensures.counts c.lower.ensures.err i.counts;
+  counts = below_lowered c.lower.result c.self.inside.tables.counts c.lower.new.self c.in-Some.id c.self.inside.options.counts c.lower.ensures.answer c.lower.ensures.counts c.lower.ensures.err i.counts;
 }

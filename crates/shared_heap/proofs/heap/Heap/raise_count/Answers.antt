@@ -3,13 +3,8 @@ use Rattle.shared_heap.proofs.heap.Heap.raise_count.Goals as goal
 
 pub invariant_of-self : goal.invariant_of-self
 invariant_of-self c = let i = c.self.invariant in record {
-  used = i.used;
   fits = i.fits;
-  number = i.number;
   unfinalised = i.unfinalised;
-  few = i.few;
   some_wait = i.some_wait;
-  roots = i.roots;
-  room = i.room;
-  counts = below_raised c.raise.result c.self.inside.counts c.raise.new.self c.in-Some.id c.self.inside.options.counts c.raise.ensures.answer c.raise.ensures.counts c.raise.ensures.err i.counts;
+  counts = below_raised c.raise.result c.self.inside.tables.counts c.raise.new.self c.in-Some.id c.self.inside.options.counts c.raise.ensures.answer c.raise.ensures.counts c.raise.ensures.err i.counts;
 }
