@@ -18,14 +18,16 @@ use Rattle.shared_heap.specs.Shared.{Shared, new_heap}
 use Rattle.shared_heap.specs.Stands.{Stands}
 use Rattle.shared_heap.specs.Steps as shared
 use Rattle.zone_history.specs.Journals.{Recorded}
-use Rattle.zone_escape.specs.Cores.{CoreShown, IsCore, IsCoreOf}
+use Rattle.zone_escape.specs.Cores.{CoreShown, IsCore, IsCoreOf, HasLists, steps_left}
 
 -- the core of the opening state
-pub new_core : (o : Options) (h : Shared) (j : Recorded) → h ≡ new_heap o → Stands h (opening o) → j.entries ≡ [] → IsCoreOf (record { heap = h; journal = j }) (opening o)
-new_core o h j new stands none = record {
+pub new_core : (o : Options) (h : Shared) (j : Recorded) → h ≡ new_heap o → Stands h (opening o) → j.entries ≡ [] → j.owed ≡ 0 → IsCoreOf (record { heap = h; journal = j }) (opening o)
+new_core o h j new stands none owed = record {
   ends = subst (λ (es : List Entry). Run (opening h.options) es (opening o)) (sym none) (ap opening (sym (ap (λ (s : Shared). s.options) new)));
   heap = record { stands = stands; holds = λ t q out. absurd (nothing q out); sound = opening_sound o };
   room = ap (λ (s : Shared). s.room) new;
+  owed = owed ∙ sym (ap steps_left new);
+  lists = subst HasLists (sym new) tt;
 }
   where
     nothing : (q : BlockId) → IsTrue (is_escaped (opening o) q) → ⊥

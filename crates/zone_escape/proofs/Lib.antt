@@ -17,3 +17,6 @@ pub mod Stepped
 pub mod Belonging
 pub mod Counted
 pub mod Room
+pub mod Phases
+pub mod Phased
+pub mod Cycles

@@ -24,7 +24,7 @@ use Rattle.local_set.specs.LocalSets.{LocalSet, part_in, held_in, blocks_of}
 use Rattle.escape_plan.specs.Moving.{Told}
 use Rattle.escape_plan.specs.Together.{Belongs, IsHeapOf, OthersStay}
 use Rattle.escape_plan.proofs.Counting.{holds_are_outs}
-use Rattle.zone_escape.specs.Cores.{CoreShown, IsCore, IsCoreOf, BelongsTo}
+use Rattle.zone_escape.specs.Cores.{CoreShown, IsCore, IsCoreOf, BelongsTo, steps_left, HasLists}
 use Rattle.zone_escape.specs.Publications.{Flushed}
 use Rattle.zone_escape.specs.Telling.{below, moved_of, moved_at, is_noted}
 use Rattle.zone_escape.proofs.Held.{escaped_alike}
@@ -100,8 +100,8 @@ pub record AfterWaiting (l m : LocalSet) (k n : CoreShown) (z : State) : Type 0 
   pub part : part_of after l.thread ≡ part_in l
   pub others : OthersStay l.thread z after
 
-pub published : (l m : LocalSet) (k n : CoreShown) (z : State) → IsCoreOf k z → Belongs l z → n.journal.entries ≡ k.journal.entries ++ l.waiting → Told l k.heap n.heap (is_noted l) → AfterWaiting l m k n z
-published l m k n z is b entries told =
+pub published : (l m : LocalSet) (k n : CoreShown) (z : State) → IsCoreOf k z → Belongs l z → n.journal.entries ≡ k.journal.entries ++ l.waiting → n.journal.owed ≡ k.journal.owed → Told l k.heap n.heap (is_noted l) → AfterWaiting l m k n z
+published l m k n z is b entries owed told =
     let run = waiting_run z is.heap.sound l.thread l.waiting (part_in l) b.run in
     let a = run.0 in
     let options : n.heap.options ≡ k.heap.options = ap (λ (s : Shared). s.options) told.rest in
@@ -116,6 +116,8 @@ published l m k n z is b entries told =
           sound = ends_sound n.heap.options n.journal.entries a ends;
         };
         room = ap (λ (s : Shared). s.room) told.rest ∙ is.room;
+        owed = owed ∙ is.owed ∙ sym (ap steps_left told.rest);
+        lists = subst HasLists (sym told.rest) is.lists;
       };
       part = run.2;
       others = run.3;
@@ -129,7 +131,6 @@ flushed l s k n is belongs entries owed told = (
   record {
     published = record {
       journal = entries;
-      owed = owed;
       options = ap (λ (h : Shared). h.options) told.rest;
       thread = refl;
       out = refl;
@@ -144,7 +145,7 @@ flushed l s k n is belongs entries owed told = (
     m = record l { published = l.registers; changed = []; waiting = []; spare = s }
 
     p : AfterWaiting l m k n is.0
-    p = published l m k n is.0 is.1 (belongs is.0 is.1) entries told
+    p = published l m k n is.0 is.1 (belongs is.0 is.1) entries owed told
 
     now : Belongs m p.after
     now = record {

@@ -1,5 +1,5 @@
 -- A core after a thread's step
-use Rattle.std.proofs.Common.{◌≡◌, ℕ, ◌==◌, false, List, [], ◌∷◌, ◌++◌, MatchOption, Option, Some, None, Result, Ok, Err, OnErr, refl, sym, ap, subst, ◌∙◌, append_assoc}
+use Rattle.std.proofs.Common.{◌≡◌, ℕ, ◌==◌, true, false, List, [], ◌∷◌, ◌++◌, MatchOption, Option, Some, None, Result, Ok, Err, OnErr, refl, sym, ap, subst, ◌∙◌, append_assoc, true≢false}
 use Rattle.az_base.specs.declared.misuse.Misuse.{Misuse}
 use Rattle.az_base.specs.declared.options.Options.{Options}
 use Rattle.zone_model.specs.declared.call.Call.{Call}
@@ -12,22 +12,28 @@ use Rattle.zone_model.specs.Effect.{Effect}
 use Rattle.zone_model.specs.Escape.{with_escaped}
 use Rattle.zone_model.specs.History.{Run, Ends, is_cycle_step}
 use Rattle.zone_model.specs.Misuses.{misuse_of}
+use Rattle.zone_model.specs.Phases.{Free, May}
 use Rattle.zone_model.specs.Part.{Part, part_of, part_after, leave_part, is_local, PartStep}
 use Rattle.zone_model.specs.State.{State, opening}
 use Rattle.zone_model.specs.Step.{Step, Happens}
 use Rattle.zone_model.proofs.Runs.{run_more}
 use Rattle.zone_model.proofs.SoundLaws.{own_part, others_parts}
+use Rattle.shared_heap.specs.Collector.{Collecting}
+use Rattle.shared_heap.specs.Cycles.{IsOpenOf}
 use Rattle.shared_heap.specs.Shared.{Shared}
+use Rattle.shared_heap.proofs.Collecting.{none_of}
 use Rattle.zone_history.specs.Journals.{Recorded}
 use Rattle.local_set.specs.Calls.{entry_of}
 use Rattle.local_set.specs.LocalSets.{LocalSet, part_in}
 use Rattle.escape_plan.specs.Together.{Belongs, Together}
 use Rattle.escape_plan.proofs.Belonging.{part_is}
 use Rattle.zone_escape.specs.Answers.{IsPlain}
-use Rattle.zone_escape.specs.Cores.{CoreShown, IsCore, IsCoreOf}
-use Rattle.zone_escape.specs.Making.{CanMake, Makes, Stays}
+use Rattle.zone_escape.specs.Cores.{CoreShown, IsCore, IsCoreOf, BelongsTo, HasLists, steps_left, steps_of, lists_of}
+use Rattle.zone_escape.specs.Making.{CanMake, KeepsCycle, Makes, Stays}
 use Rattle.zone_escape.specs.Publications.{Flushed, Stepped, is_leave}
 use Rattle.zone_escape.proofs.Published.{core_once}
+use Rattle.zone_escape.proofs.Phases.{may_still, flushed_stays}
+use Rattle.zone_escape.proofs.Cycles.{keeps_steps, keeps_lists}
 
 pub not_leave : (c : Call) → (c ≡ call.Leave → ⊥) → is_leave c ≡ false
 not_leave call.Leave h = absurd (h refl)
@@ -105,34 +111,42 @@ module _ (l m : LocalSet) (h k : Shared) (c : Call) (r : Reply) (can : CanMake l
 pub core_together : (l : LocalSet) (k : CoreShown) (z : State) → Belongs l z → IsCoreOf k z → Together l k.heap z
 core_together l k z b is = record { local = b; heap = is.heap; room = is.room }
 
+-- a thread that may leave has no open cycle
+leave_free : (z : State) (t : ℕ) (c : Call) → is_leave c ≡ true → May z t c → Free z t
+leave_free z t call.Leave leave may = may
+leave_free z t _ leave may = absurd (true≢false (sym leave))
+
+none_of_free : (k : CoreShown) (t : ℕ) (is : IsCore k) → Free is.0 t → (g : Collecting) → IsOpenOf k.heap t g → ⊥
+none_of_free k t is free g = none_of k.heap is.0 t g is.1.heap.stands free
+
 -- a call may be made once what waits was published
-pub can_make : (old l : LocalSet) (k0 k : CoreShown) (c : Call) → IsCore k → Flushed old l k0 k → old.ended ≡ false → is_local (part_in old) c ≡ false → CanMake l k.heap c
-can_make old l k0 k c is flushed running shared = record {
+pub can_make : (old l : LocalSet) (k0 k : CoreShown) (c : Call) → IsCore k0 → IsCore k → BelongsTo old k0 → Flushed old l k0 k → old.ended ≡ false → is_local (part_in old) c ≡ false → ((z : State) → IsCoreOf k0 z → May z old.thread c) → CanMake l k.heap c
+can_make old l k0 k c was is belongs flushed running shared may = record {
   together = (is.0, core_together l k is.0 (flushed.published.belongs is.0 is.1) is.1);
   out = flushed.published.out;
   running = ap (λ (p : Part). p.ended) flushed.part ∙ running;
   shared = ap (λ p. is_local p c) flushed.part ∙ shared;
+  free = λ leave. none_of_free k l.thread is (subst (λ t. Free is.0 t) (sym flushed.published.thread) (leave_free is.0 old.thread c leave (may_still k0 k old.thread c was (flushed_stays old l k0 k was belongs flushed) may is.0 is.1)));
 }
 
 module _ (old l m : LocalSet) (k0 k : CoreShown) (heap : Shared) (is : IsCore k) (flushed : Flushed old l k0 k) where
   -- where the call was refused
-  refused_core : Stays l m k.heap heap → IsCoreOf (record { heap = heap; journal = k.journal }) is.0
-  refused_core still =
+  refused_core : KeepsCycle k.heap heap → Stays l m k.heap heap → IsCoreOf (record { heap = heap; journal = k.journal }) is.0
+  refused_core cycle still =
       let t = still.together is.0 (core_together l k is.0 (flushed.published.belongs is.0 is.1) is.1) in
-      record { ends = subst (λ (o : Options). Ends o k.journal.entries is.0) (sym still.options) is.1.ends; heap = t.heap; room = t.room }
+      record { ends = subst (λ (o : Options). Ends o k.journal.entries is.0) (sym still.options) is.1.ends; heap = t.heap; room = t.room; owed = is.1.owed ∙ sym (keeps_steps k.heap heap cycle); lists = keeps_lists k.heap heap cycle is.1.lists }
 
-  pub refused : Stays l m k.heap heap → IsCore (record { heap = heap; journal = k.journal }) × Flushed old m k0 (record { heap = heap; journal = k.journal })
-  refused still =
+  pub refused : KeepsCycle k.heap heap → Stays l m k.heap heap → IsCore (record { heap = heap; journal = k.journal }) × Flushed old m k0 (record { heap = heap; journal = k.journal })
+  refused cycle still =
       let n : CoreShown = record { heap = heap; journal = k.journal } in
       let z = is.0 in
       let b = flushed.published.belongs z is.1 in
       let t = still.together z (core_together l k z b is.1) in
-      let core = refused_core still in (
+      let core = refused_core cycle still in (
         (z, core),
         record {
           published = record {
             journal = flushed.published.journal;
-            owed = flushed.published.owed;
             options = still.options ∙ flushed.published.options;
             thread = still.thread ∙ flushed.published.thread;
             out = still.waiting;
@@ -144,9 +158,9 @@ module _ (old l m : LocalSet) (k0 k : CoreShown) (heap : Shared) (is : IsCore k)
       )
 
   -- where it was made, and its entry went into the journal
-  pub stepped : (c : Call) (r : Reply) (journal : Recorded) → Makes l m k.heap heap c r → journal.entries ≡ k.journal.entries ++ entry_of l.thread c r ∷ [] → journal.owed ≡ k.journal.owed → m.ended ≡ is_leave c
+  pub stepped : (c : Call) (r : Reply) (journal : Recorded) → steps_left heap ≡ journal.owed → HasLists heap → Makes l m k.heap heap c r → journal.entries ≡ k.journal.entries ++ entry_of l.thread c r ∷ [] → m.ended ≡ is_leave c
       → IsCore (record { heap = heap; journal = journal }) × Stepped old m k0 (record { heap = heap; journal = journal }) c r
-  stepped c r journal made entries owed ended =
+  stepped c r journal owed lists made entries ended =
       let n : CoreShown = record { heap = heap; journal = journal } in
       let z = is.0 in
       let step = made.step z (core_together l k z (flushed.published.belongs z is.1) is.1) in
@@ -155,13 +169,14 @@ module _ (old l m : LocalSet) (k0 k : CoreShown) (heap : Shared) (is : IsCore k)
         ends = subst (λ (o : Options). Ends o journal.entries a) (sym made.options) (subst (λ (es : List Entry). Run (opening k.heap.options) es a) (sym entries) (run_more (opening k.heap.options) k.journal.entries z _ a is.1.ends step.1));
         heap = step.2.heap;
         room = step.2.room;
+        owed = sym owed;
+        lists = lists;
       } in (
         (a, core),
         record {
           published = record {
             journal = entries ∙ ap (λ es. es ++ entry_of l.thread c r ∷ []) flushed.published.journal ∙ append_assoc k0.journal.entries old.waiting (entry_of l.thread c r ∷ [])
                 ∙ ap (λ t. k0.journal.entries ++ (old.waiting ++ entry_of t c r ∷ [])) flushed.published.thread;
-            owed = owed ∙ flushed.published.owed;
             options = made.options ∙ flushed.published.options;
             thread = made.thread ∙ flushed.published.thread;
             out = made.waiting;

@@ -1,4 +1,5 @@
 pub mod Cores
+pub mod Phases
 pub mod Publications
 pub mod Making
 pub mod Receiving

@@ -101,8 +101,6 @@ pub(crate) fn leave(alloc: Global, local: &mut Local, heap: &mut Heap) -> Result
     ensures ended { OnOk result (local.new.ended ≡ true) }
     ensures err { OnErr result (Stays local.old local.new heap.old heap.new) }
 {
-    // no cycle is ever open yet
-    let _ = heap.cycle();
     let gone = local.own_ids(alloc)?;
     let copy = gone.try_copy(alloc)?;
     let_all_go(local, heap, gone.as_slice());

@@ -21,6 +21,7 @@ mod counts;
 mod exposing;
 mod laws;
 mod leaving;
+mod phase;
 mod publishing;
 mod receiving;
 mod roots;
@@ -32,8 +33,10 @@ mod zone_core;
 
 pub use laws::{
     local_calls_leave_sets_with_their_core, new_sets_belong_to_new_cores,
-    other_sets_stay_with_their_core,
+    other_sets_stay_with_their_core, publications_leave_the_open_cycle,
+    what_a_thread_may_do_stays_with_the_cycle,
 };
+pub use phase::may;
 pub use publishing::flush;
-pub use stepping::{may, step};
+pub use stepping::step;
 pub use zone_core::Core;

@@ -1,5 +1,6 @@
 //! What waits is published.
 ghost use Rattle.std.specs.Prelude.{◌≡◌, ◌≤◌, ◌+◌, ◌++◌, [], length, OnOk, OnErr};
+ghost use Rattle.std.specs.Result.{IsOk};
 ghost use Rattle.zone_model.specs.History.{Legal};
 ghost use Rattle.zone_escape.specs.Cores.{BelongsTo, IsCore};
 ghost use Rattle.zone_escape.specs.Publications.{Flushed, Untouched};
@@ -41,9 +42,12 @@ fn take_room(local: &Local, core: &mut Core, more: u32) -> Result<(), NoMemory>
     ensures ok { OnOk result (Flushed local.now local.now core.old core.new) }
     ensures room { OnOk result (core.new.journal.owed + more ≤ core.new.journal.spare) }
     ensures err { OnErr result (Untouched local.now local.now core.old core.new) }
+    ensures sure { more ≡ 0 → IsOk result }
     ensures legal { Legal core.new.heap.options core.new.journal.entries }
     ensures state { IsCore core.new }
 {
+    // what is owed has its room
+    let _owed = core.journal.owed();
     core.journal.reserve(u64::from(more))
 }
 
@@ -69,6 +73,7 @@ pub(crate) fn publish(local: &mut Local, core: &mut Core, more: u32) -> Result<(
     ensures ok { OnOk result (Flushed local.old local.new core.old core.new) }
     ensures room { OnOk result (core.new.journal.owed + more ≤ core.new.journal.spare) }
     ensures err { OnErr result (Untouched local.old local.new core.old core.new) }
+    ensures sure { local.old.waiting ≡ [] → more ≡ 0 → IsOk result }
     ensures legal { Legal core.new.heap.options core.new.journal.entries }
     ensures state { IsCore core.new }
 {
@@ -79,12 +84,13 @@ pub(crate) fn publish(local: &mut Local, core: &mut Core, more: u32) -> Result<(
     }
 }
 
-/// Publishes what waits. NoMemory leaves all as it was. O(waiting entries, and what changed since the last publication)
-/// expected, and O(journal) where that grows.
+/// Publishes what waits. NoMemory leaves all as it was; where nothing waits, no room is asked for. O(waiting entries, and
+/// what changed since the last publication) expected, and O(journal) where that grows.
 pub fn flush(local: &mut Local, core: &mut Core) -> Result<(), NoMemory>
     requires { BelongsTo local.old core.old }
     ensures ok { OnOk result (Flushed local.old local.new core.old core.new) }
     ensures err { OnErr result (Untouched local.old local.new core.old core.new) }
+    ensures sure { local.old.waiting ≡ [] → IsOk result }
     ensures legal { Legal core.new.heap.options core.new.journal.entries }
     ensures state { IsCore core.new }
 {

@@ -1,14 +1,15 @@
 //! A thread's step.
-ghost use Rattle.std.specs.Prelude.{◌≡◌, false, IfOk, OnOk, OnErr, IsTrue, ◌↔◌};
+ghost use Rattle.std.specs.Prelude.{◌≡◌, true, false, [], IfOk, OnOk, OnErr, IsTrue, ◌↔◌};
+ghost use Rattle.std.specs.Result.{IsOk};
 ghost use Rattle.zone_model.specs.declared.call.Call.TheVariants as call;
 ghost use Rattle.zone_model.specs.Bare.{bare_reply};
 ghost use Rattle.zone_model.specs.History.{Legal, is_cycle_step};
 ghost use Rattle.zone_model.specs.Part.{is_local as is_local_at};
-ghost use Rattle.zone_model.specs.Phases.{May};
+ghost use Rattle.zone_model.specs.Phases.{May, is_closing};
 ghost use Rattle.zone_model.specs.State.{State};
 ghost use Rattle.local_set.specs.LocalSets.{part_in};
 ghost use Rattle.zone_escape.specs.Cores.{BelongsTo, IsCore, IsCoreOf};
-ghost use Rattle.zone_escape.specs.Making.{CanMake, Makes, Stays};
+ghost use Rattle.zone_escape.specs.Making.{CanMake, KeepsCycle, Makes, Stays};
 ghost use Rattle.zone_escape.specs.Publications.{Refused, Stepped, is_leave};
 
 use crate::answers::{Answer, twice};
@@ -26,18 +27,6 @@ use local_set::Local;
 use shared_heap::Heap;
 use std::alloc::Global;
 use zone_model::{Call, Entry, Reply};
-
-/// Whether the thread may make the call, as far as its own cycle is concerned. No collection is built yet, so no cycle is
-/// ever open: it may begin one and leave, and has none to go on with. O(1).
-pub fn may(_local: &Local, core: &Core, call: &Call) -> bool
-    ensures { (z : State) → IsCoreOf core.now z → IsTrue result ↔ May z _local.now.thread call.now }
-{
-    let _ = core.heap.cycle();
-    match call {
-        Call::Condemn | Call::Finalise | Call::Reclaim => false,
-        _ => true,
-    }
-}
 
 /// The call `stats`: the statistics of the zone. O(1).
 fn stats(_local: &Local, heap: &Heap) -> Reply
@@ -94,8 +83,13 @@ fn make_plain(
     }
 }
 
-/// Makes a call that isn't local, of a thread of which nothing waits.
-fn make(alloc: Global, local: &mut Local, heap: &mut Heap, call: &Call) -> Result<Answer, NoMemory>
+/// Makes a call that is no step of a cycle and isn't local, of a thread of which nothing waits.
+fn make_any(
+    alloc: Global,
+    local: &mut Local,
+    heap: &mut Heap,
+    call: &Call,
+) -> Result<Answer, NoMemory>
     requires can { CanMake local.old heap.old call.now }
     requires built { is_cycle_step call.now ≡ false }
     ensures ok { IfOk result (λ answer. Makes local.old local.new heap.old heap.new call.now answer.reply) }
@@ -110,19 +104,30 @@ fn make(alloc: Global, local: &mut Local, heap: &mut Heap, call: &Call) -> Resul
     Ok(twice(reply))
 }
 
-/// Publishes what waits, and then makes the call. NoMemory leaves all as it was, or what waits was published and nothing
-/// else has happened. O(waiting entries, what changed since the last publication, and words of the blocks that escape)
-/// expected, and O(journal) where that grows.
-pub fn step(
-    alloc: Global,
-    local: &mut Local,
-    core: &mut Core,
-    call: &Call,
-) -> Result<Reply, NoMemory>
+/// The same; it leaves the open cycle but for its shades.
+fn make(alloc: Global, local: &mut Local, heap: &mut Heap, call: &Call) -> Result<Answer, NoMemory>
+    requires can { CanMake local.old heap.old call.now }
+    requires built { is_cycle_step call.now ≡ false }
+    ensures ok { IfOk result (λ answer. Makes local.old local.new heap.old heap.new call.now answer.reply) }
+    ensures same { IfOk result (λ answer. bare_reply answer.copy ≡ bare_reply answer.reply) }
+    ensures ended { OnOk result (local.new.ended ≡ is_leave call.now) }
+    ensures err { OnErr result (Stays local.old local.new heap.old heap.new) }
+    ensures cycle { KeepsCycle heap.old heap.new }
+{
+    // the heap opens no cycle yet
+    let _ = heap.cycle();
+    let made = make_any(alloc, local, heap, call);
+    let _ = heap.cycle();
+    made
+}
+
+/// Publishes what waits, and then makes a call that is no step of a cycle.
+fn share(alloc: Global, local: &mut Local, core: &mut Core, call: &Call) -> Result<Reply, NoMemory>
     requires belongs { BelongsTo local.old core.old }
     requires running { local.old.ended ≡ false }
     requires shared { is_local_at (part_in local.old) call.now ≡ false }
-    requires built { is_cycle_step call.now ≡ false }
+    requires quiet { is_cycle_step call.now ≡ false }
+    requires may { (z : State) → IsCoreOf core.old z → May z local.old.thread call.now }
     ensures ok { IfOk result (λ reply. Stepped local.old local.new core.old core.new call.now reply) }
     ensures err { OnErr result (Refused local.old local.new core.old core.new) }
     ensures legal { Legal core.new.heap.options core.new.journal.entries }
@@ -138,4 +143,43 @@ pub fn step(
         reply: answer.copy,
     });
     Ok(answer.reply)
+}
+
+/// No collection is built yet, so none begins.
+fn refuse(core: &mut Core) -> Result<Reply, NoMemory>
+    ensures err { OnErr result (core.new ≡ core.old) }
+    ensures never { IfOk result (λ _. ⊥) }
+    ensures state { IsCore core.new }
+{
+    let _ = &core.journal;
+    Err(NoMemory)
+}
+
+/// Publishes what waits, and then makes the call, which the thread may make (`may`). NoMemory leaves all as it was, or what
+/// waits was published and nothing else has happened. Once a cycle has begun, its Condemn, each Finalise and its Reclaim
+/// are never refused where nothing waits. O(waiting entries, what changed since the last publication, and words of the
+/// blocks that escape) expected, and O(journal) where that grows.
+pub fn step(
+    alloc: Global,
+    local: &mut Local,
+    core: &mut Core,
+    call: &Call,
+) -> Result<Reply, NoMemory>
+    requires belongs { BelongsTo local.old core.old }
+    requires running { local.old.ended ≡ false }
+    requires shared { is_local_at (part_in local.old) call.now ≡ false }
+    requires may { (z : State) → IsCoreOf core.old z → May z local.old.thread call.now }
+    ensures ok { IfOk result (λ reply. Stepped local.old local.new core.old core.new call.now reply) }
+    ensures err { OnErr result (Refused local.old local.new core.old core.new) }
+    ensures sure { is_closing call.now ≡ true → local.old.waiting ≡ [] → IsOk result }
+    ensures legal { Legal core.new.heap.options core.new.journal.entries }
+    ensures state { IsCore core.new }
+{
+    // the heap opens no cycle yet
+    let _ = core.heap.cycle();
+    match call {
+        Call::Begin { .. } => refuse(core),
+        Call::Condemn | Call::Finalise | Call::Reclaim => unreachable!(),
+        _ => share(alloc, local, core, call),
+    }
 }

@@ -1,13 +1,14 @@
 //! The heap and the journal.
-ghost use Rattle.std.specs.Prelude.{◌≡◌, [], IfOk, map};
+ghost use Rattle.std.specs.Prelude.{◌≡◌, [], IfOk, map, option_map};
 ghost use Rattle.az_base.specs.OptionRanges.{IsValid};
 ghost use Rattle.zone_model.specs.Bare.{bare_entry};
 ghost use Rattle.zone_model.specs.History.{Legal};
-ghost use Rattle.zone_model.specs.State.{State, opening};
+ghost use Rattle.zone_model.specs.Phases.{left_in};
+ghost use Rattle.zone_model.specs.State.{State, Cycle, opening};
 ghost use Rattle.zone_model.specs.Stats.{stats_of};
 ghost use Rattle.zone_escape.specs.Cores.{IsCore, IsCoreOf};
 
-use az_base::{NoMemory, Options};
+use az_base::{NoMemory, Options, ThreadNo};
 use shared_heap::Heap;
 use std::alloc::Global;
 use std::marker::Model;
@@ -75,6 +76,22 @@ impl Core {
         ensures state { IsCore self.now }
     {
         self.heap.stats()
+    }
+
+    /// The thread whose cycle is open; None exactly where none is. O(1).
+    pub fn open_cycle(&self) -> Option<ThreadNo>
+        ensures owner { (z : State) → IsCoreOf self.now z → result ≡ option_map (λ (c : Cycle). c.owner) z.cycle }
+        ensures state { IsCore self.now }
+    {
+        self.heap.cycle().map(|cycle| cycle.0)
+    }
+
+    /// How many condemned blocks wait for their finaliser; 0 where nothing is condemned. O(1).
+    pub fn to_finalise(&self) -> u32
+        ensures left { (z : State) → IsCoreOf self.now z → result ≡ left_in z }
+        ensures state { IsCore self.now }
+    {
+        self.heap.to_finalise()
     }
 
     /// The journal; the heap is let go. O(blocks).

@@ -1,6 +1,5 @@
 //! Calls of three threads, with what each has to answer.
-ghost use Rattle.std.specs.Prelude.{◌≡◌, false, IfSome};
-ghost use Rattle.zone_model.specs.History.{is_cycle_step};
+ghost use Rattle.std.specs.Prelude.{◌≡◌, false};
 ghost use Rattle.zone_escape.specs.Cores.{IsCore, BelongsTo};
 ghost use Rattle.zone_escape_tests.specs.Turns.{AreOf, Turned};
 
@@ -83,9 +82,7 @@ fn is_answer(reply: &Reply, answer: &Answer) -> bool {
 }
 
 /// The call for a block of scanned memory.
-fn birth(to: u32, words: u32) -> Option<Call>
-    ensures { IfSome result (λ call. is_cycle_step call ≡ false) }
-{
+fn birth(to: u32, words: u32) -> Option<Call> {
     let to = Reg::new(to)?;
     match Layout::scanned(words) {
         Ok(layout) => Some(Call::New {
@@ -98,9 +95,7 @@ fn birth(to: u32, words: u32) -> Option<Call>
 }
 
 /// The call that is asked for; None where a register isn't there, and for a publication.
-fn call_of(asked: &Ask) -> Option<Call>
-    ensures { IfSome result (λ call. is_cycle_step call ≡ false) }
-{
+fn call_of(asked: &Ask) -> Option<Call> {
     match *asked {
         Ask::Scanned(to, words) => birth(to, words),
         Ask::Load(to, from, at) => Some(Call::Load {

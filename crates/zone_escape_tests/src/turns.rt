@@ -1,14 +1,15 @@
 //! The turn of a thread.
 ghost use Rattle.std.specs.Prelude.{◌≡◌, true, false};
-ghost use Rattle.zone_model.specs.History.{is_cycle_step};
 ghost use Rattle.zone_model.specs.Part.{is_local as is_local_at};
+ghost use Rattle.zone_model.specs.Phases.{May};
+ghost use Rattle.zone_model.specs.State.{State};
 ghost use Rattle.local_set.specs.LocalSets.{part_in};
-ghost use Rattle.zone_escape.specs.Cores.{IsCore, BelongsTo};
+ghost use Rattle.zone_escape.specs.Cores.{IsCore, IsCoreOf, BelongsTo};
 ghost use Rattle.zone_escape_tests.specs.Turns.{Turned};
 
 use local_set::Local;
 use std::alloc::Global;
-use zone_escape::{Core, flush, step};
+use zone_escape::{Core, flush, may, step};
 use zone_model::{Call, Reply};
 
 /// What waits is published; whether it was.
@@ -40,7 +41,7 @@ fn make_shared(alloc: Global, local: &mut Local, core: &mut Core, call: &Call) -
     requires state { IsCore core.old }
     requires belongs { BelongsTo local.old core.old }
     requires shared { is_local_at (part_in local.old) call.now ≡ false }
-    requires built { is_cycle_step call.now ≡ false }
+    requires may { (z : State) → IsCoreOf core.old z → May z local.old.thread call.now }
     ensures { Turned local.old local.new core.old core.new }
 {
     match step(alloc, local, core, call) {
@@ -49,11 +50,10 @@ fn make_shared(alloc: Global, local: &mut Local, core: &mut Core, call: &Call) -
     }
 }
 
-/// The reply to a call; None where it was refused, or the thread has ended.
+/// The reply to a call; None where it was refused, the thread may not make it, or it has ended.
 pub fn make(alloc: Global, local: &mut Local, core: &mut Core, call: &Call) -> Option<Reply>
     requires state { IsCore core.old }
     requires belongs { BelongsTo local.old core.old }
-    requires built { is_cycle_step call.now ≡ false }
     ensures { Turned local.old local.new core.old core.new }
 {
     if local.has_ended() {
@@ -61,6 +61,9 @@ pub fn make(alloc: Global, local: &mut Local, core: &mut Core, call: &Call) -> O
     }
     if local.is_local(call) {
         return make_local(alloc, local, core, call);
+    }
+    if !may(local, core, call) {
+        return None;
     }
     make_shared(alloc, local, core, call)
 }

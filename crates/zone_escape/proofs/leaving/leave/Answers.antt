@@ -1,12 +1,8 @@
-use Rattle.std.proofs.Common.{◌≡◌, ◌∙◌, None, Some, sym}
-use Rattle.shared_heap.specs.Collector.{Collecting}
+use Rattle.std.proofs.Common.{refl}
 use Rattle.shared_heap.proofs.Collecting.{free_of}
 use Rattle.zone_escape.proofs.Ended.{left}
 use Rattle.zone_escape.proofs.leaving.leave.Goals as goal
 
-none_some : (g : Collecting) → None ≡ Some g → ⊥
-none_some g e = cc
-
 pub returns-clause-ok : goal.returns-clause-ok
 returns-clause-ok c = left c.args.local.now c.clear.new.self c.args.heap.now c.let_all_go.new.heap c.in_ok-gone.gone c.requires c.in_ok-gone.ensures c.let_all_go.ensures c.clear.ensures.part c.clear.ensures.rest
-    (λ z t. free_of c.args.heap.now z c.args.local.now.thread t.heap.stands (λ g is. none_some g (sym c.cycle.ensures.idle ∙ is.0)))
+    (λ z t. free_of c.args.heap.now z c.args.local.now.thread t.heap.stands (c.requires.free refl))

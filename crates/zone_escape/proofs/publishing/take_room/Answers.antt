@@ -7,7 +7,7 @@ abbrev seen : goal.After-reserve → CoreShown
 seen c = record { heap = c.core.inside.heap; journal = c.core.inside.journal }
 
 pub invariant_of-core : goal.invariant_of-core
-invariant_of-core c = let is = c.core.invariant in (is.0, core_still (record { heap = c.core.inside.heap; journal = c.core.inside.journal }) c.reserve.new.self c.reserve.ensures.entries is.0 is.1)
+invariant_of-core c = let is = c.core.invariant in (is.0, core_still (record { heap = c.core.inside.heap; journal = c.core.inside.journal }) c.reserve.new.self c.reserve.ensures.entries c.reserve.ensures.owed is.0 is.1)
 
 pub returns-clause-ok : goal.returns-clause-ok
 returns-clause-ok c =
