@@ -6,7 +6,7 @@ use Rattle.zone_model.specs.declared.call.Call.{Call}
 use Rattle.zone_model.specs.declared.entry.Entry.{Entry}
 use Rattle.zone_model.specs.declared.entry.Reply.{Reply}
 use Rattle.zone_model.specs.Part.{is_local}
-use Rattle.local_set.specs.Calls.{Made, entry_of}
+use Rattle.local_set.specs.Calls.{Made, Same, entry_of}
 use Rattle.local_set.specs.LocalSets.{LocalSet, part_in}
 use Rattle.zone_escape.specs.Cores.{CoreShown, IsCore, BelongsTo}
 use Rattle.zone_escape.specs.Publications.{Publishes, Flushed, Stepped, Untouched, Refused}
@@ -78,6 +78,21 @@ keeps_stopped l m k n core belongs s = roomed (by s.1)
       belongs = same_belongs s.0 m n moves.belongs s.2;
       others = moves.others;
     }
+
+-- where only the room had changed before
+stopped_from : (l x m : LocalSet) (k n : CoreShown) → Same l x → Stopped x m k n → Stopped l m k n
+stopped_from l x m k n same s = by s.1
+  where
+    by : Refused x s.0 k n → Stopped l m k n
+    by (inl u) = (l, inl (record { local = refl; journal = u.journal; owed = u.owed; options = u.options; state = u.state }), s.2 ∙ ap (λ (y : LocalSet). record y { spare = m.spare }) (u.local ∙ same))
+    by (inr f) =
+        let g = subst (λ y. Flushed y s.0 k n) same f in
+        let p = g.published in
+        (s.0, inr (record { published = record { journal = p.journal; options = p.options; thread = p.thread; out = p.out; belongs = p.belongs; others = p.others }; part = g.part }), s.2)
+
+pub err_from : (r : Result Reply NoMemory) (l x m : LocalSet) (k n : CoreShown) → Same l x → OnErr r (Stopped x m k n) → OnErr r (Stopped l m k n)
+err_from (Ok reply) l x m k n same err = tt
+err_from (Err e) l x m k n same err = stopped_from l x m k n same err
 
 -- the world goes on
 pub keeps_on : (k n : CoreShown) (locals : List LocalSet) (at : ℕ) (l m : LocalSet) → Keeps k locals → slice_get locals at ≡ Some l → Moves l m k n → Keeps n (slice_set locals at m)

@@ -4,4 +4,6 @@ pub mod Stepping
 pub mod Legal
 pub mod Opening
 pub mod Ending
+pub mod Cycles
+pub mod Collections
 pub mod Lines

@@ -15,11 +15,12 @@ use Rattle.zone_model.specs.declared.entry.Reply.{Reply}
 use Rattle.zone_model.specs.declared.entry.Reply.TheVariants as reply
 use Rattle.zone_model.specs.declared.entry.Stats.{Stats}
 use Rattle.zone_model.specs.Bare.{bare_reply, bare_entry}
-use Rattle.zone_model.specs.History.{Legal, Ends}
+use Rattle.zone_model.specs.History.{Legal, Ends, is_cycle_step}
+use Rattle.zone_model.specs.Phases.{May}
 use Rattle.zone_model.specs.Replies.{SameButRoom}
-use Rattle.zone_model.specs.State.{State}
+use Rattle.zone_model.specs.State.{State, opening}
 use Rattle.zone_model.specs.Stats.{stats_of}
-use Rattle.zone_escape.specs.Publications.{is_leave}
+use Rattle.zone_escape.specs.Publications.{is_leave, LeavesCycle}
 use Rattle.zone_history.specs.Histories.{Request, is_asked}
 use Rattle.local_set.specs.LocalSets.{LocalSet}
 use Rattle.play_order.specs.Play.{IsPlayOf, leaves, threads_of}
@@ -28,7 +29,8 @@ use Rattle.play_order.proofs.Playing.{so_far_none, so_far_all}
 use Rattle.play_order.proofs.Rooms.{play_alike}
 use Rattle.play_core.specs.Opening.{opening_seen}
 use Rattle.play_core.specs.Playing.{requests, IsBuiltCall, CanPlay, Turns, ends_of}
-use Rattle.play_core.specs.Worlds.{WorldShown, threads_in, seen, is_running, Steps, IsBelow, Ascending}
+use Rattle.play_core.specs.Worlds.{WorldShown, AtEnd, IsQuiet, CyclesStay, threads_in, seen, is_running, Steps, IsBelow, Ascending}
+use Rattle.play_core.proofs.Cycles.{quiet_still, plain_leaves}
 use Rattle.play_core.proofs.Ending.{so_far_turns, turns_options}
 
 -- whose lines there are
@@ -132,11 +134,29 @@ built_stays : (c : Call) → IsBuiltCall c → is_leave c ≡ false
 built_stays call.Leave h = absurd h
 built_stays c h = refl
 
+-- what lines ask for is no step of a cycle by itself
+pub built_quiet : (c : Call) → IsBuiltCall c → is_cycle_step c ≡ false
+built_quiet (call.Begin mode) h = absurd h
+built_quiet call.Condemn h = absurd h
+built_quiet call.Finalise h = absurd h
+built_quiet call.Reclaim h = absurd h
+built_quiet c h = refl
+
+-- and so its thread may make it
+pub built_may : (w : WorldShown) (t : ℕ) (c : Call) → IsBuiltCall c → AtEnd w (λ z. May z t c)
+built_may w t (call.Begin mode) h = absurd h
+built_may w t call.Condemn h = absurd h
+built_may w t call.Finalise h = absurd h
+built_may w t call.Reclaim h = absurd h
+built_may w t call.Leave h = absurd h
+built_may w t _ h = λ z ends. tt
+
 -- and goes on
-pub can_still : (w after : WorldShown) (rs : List Request) (t : ℕ) (c : Call) (reply : Reply) → CanPlay w rs → is_running w t ≡ true → IsBuiltCall c → Steps w after t c reply → threads_in after.locals ≡ threads_in w.locals → CanPlay after rs
-can_still w after rs t c reply can run built steps threads = record {
+pub can_still : (w after : WorldShown) (rs : List Request) (t : ℕ) (c : Call) (reply : Reply) → CanPlay w rs → is_running w t ≡ true → IsBuiltCall c → Steps w after t c reply → (LeavesCycle c reply → CyclesStay w after) → threads_in after.locals ≡ threads_in w.locals → CanPlay after rs
+can_still w after rs t c reply can run built steps leaves threads = record {
   threads = threads ∙ can.threads;
   running = λ u. by u (t == u) refl ∙ can.running u;
+  quiet = quiet_still w after (leaves (plain_leaves c reply (built_quiet c built))) can.quiet;
 }
   where
     by : (u : ℕ) (b : Bool) → (t == u) ≡ b → is_running after u ≡ is_running w u
@@ -162,6 +182,12 @@ pub play_of : (rs : List Request) (w after : WorldShown) (r : Result Stats NoMem
 play_of rs w after (Ok stats) so can turns counted legal =
     so_far_all rs (seen after) stats (so_far_turns rs (leaves (threads_of rs)) (seen w) (seen after) so (subst (λ ends. Turns (seen w) ends (seen after)) (ends_are w rs can) turns)) legal (counted legal.0 legal.1)
 play_of rs w after (Err e) so can turns counted legal = tt
+
+-- no cycle is open at first
+pub quiet_opened : (w : WorldShown) (o : Options) → seen w ≡ opening_seen o → IsQuiet w
+quiet_opened w o is z ends =
+    let first : z ≡ opening w.options = subst (λ (es : List Entry). Ends w.options es z) (ap (λ (s : Seen). s.queues.journal) is) ends in
+    ap (λ (y : State). y.cycle) first
 
 -- at first
 pub so_far_opened : (w : WorldShown) (o : Options) → seen w ≡ opening_seen o → SoFar [] (seen w)

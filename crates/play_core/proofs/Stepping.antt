@@ -22,7 +22,7 @@ use Rattle.play_order.specs.Waiting.{Waits, Publishes as PublishesLine}
 use Rattle.play_order.specs.Playing.{IsTold}
 use Rattle.play_order.proofs.Playing.{alone_part}
 use Rattle.play_core.specs.Turning.{MakesRoom, Turned, Stopped}
-use Rattle.play_core.specs.Worlds.{WorldShown, local_of, waits_of, part_at, seen, is_running, line_of, Steps, Stops}
+use Rattle.play_core.specs.Worlds.{WorldShown, AtEnd, local_of, waits_of, part_at, seen, is_running, line_of, Steps, Stops}
 use Rattle.play_core.specs.Inside.{Keeps}
 use Rattle.play_core.proofs.Sets.{is_of, one_set, placed, not_placed, found_is, found_at, found_there, found_others, set_here}
 use Rattle.play_core.proofs.Keeping.{Moves, keeps_on}
@@ -239,3 +239,11 @@ may_of w k locals is core th l found off c b may z ends =
     let one : z ≡ core.0 = run_determined (opening k.heap.options) k.journal.entries z core.0 ends_here core.1.ends in
     let both = may z (subst (IsCoreOf k) (sym one) core.1) in
     ((λ t. (run, subst (λ u. May z u c) same (both.0 t))), (λ h. both.1 (subst (λ u. May z u c) (sym same) h.1)))
+
+-- what holds of each state of the core holds at the end of what the world has published
+pub at_end : (k : CoreShown) (locals : List LocalSet) (P : State → Type 0) → IsCore k → ((z : State) → IsCoreOf k z → P z) → AtEnd (world_of k locals) P
+at_end k locals P core is z ends = subst P (run_determined (opening k.heap.options) k.journal.entries core.0 z core.1.ends ends) (is core.0 core.1)
+
+-- what a thread may do at the end of what the world has published it may do at each state of the core
+pub may_at : (k : CoreShown) (locals : List LocalSet) (t th : ℕ) (c : Call) → t ≡ th → AtEnd (world_of k locals) (λ z. May z th c) → (z : State) → IsCoreOf k z → May z t c
+may_at k locals t th c same may z is = subst (λ u. May z u c) (sym same) (may z is.ends)

@@ -10,7 +10,7 @@ use Rattle.zone_model.specs.declared.call.Call.{Call}
 use Rattle.play_order.specs.Places.{Played}
 use Rattle.play_order.specs.Play.{leaves, threads_of}
 use Rattle.play_order.specs.Playing.{Seen, IsTold, Turn}
-use Rattle.play_core.specs.Worlds.{WorldShown, threads_in, seen, is_running, Stops}
+use Rattle.play_core.specs.Worlds.{WorldShown, threads_in, seen, is_running, IsQuiet, Stops}
 
 -- what lines ask their threads for, in their order
 abbrev pub requests : List Line → List Request
@@ -46,7 +46,8 @@ IsBuiltCall c = IsBuilt (act.Call c)
 abbrev pub PlaysLine : WorldShown → WorldShown → Request → Type 0
 PlaysLine old new r = IsTold (seen old) r.0 × (line : Played) × Turn (seen old) r line (seen new)
 
--- the threads of a world are those that are asked for something, and none has left
+-- the threads of a world are those that are asked for something, none has left, and no cycle is open
 pub record CanPlay (w : WorldShown) (requests : List Request) : Type 0 where
   pub threads : threads_in w.locals ≡ threads_of requests
   pub running : (t : ℕ) → is_running w t ≡ list_any (λ u. u == t) (threads_of requests)
+  pub quiet : IsQuiet w

@@ -1,12 +1,15 @@
 -- What a world is seen as, and what a call makes of it
-use Rattle.std.specs.Prelude.{◌≡◌, ◌<◌, ◌⊎◌, ◌==◌, ℕ, Bool, false, not, List, [], ◌∷◌, ◌++◌, map, find, flat_map, Option, if◌then◌else◌}
+use Rattle.std.specs.Prelude.{◌≡◌, ◌<◌, ◌⊎◌, ◌==◌, ℕ, Bool, false, not, List, [], ◌∷◌, ◌++◌, map, find, flat_map, Option, None, if◌then◌else◌}
 use Rattle.std.specs.Option.{option_map_or}
 use Rattle.az_base.specs.declared.options.Options.{Options}
 use Rattle.zone_model.specs.declared.act.Act.TheVariants as act
 use Rattle.zone_model.specs.declared.call.Call.{Call}
 use Rattle.zone_model.specs.declared.entry.Entry.{Entry}
 use Rattle.zone_model.specs.declared.entry.Reply.{Reply}
+use Rattle.zone_model.specs.History.{Ends}
 use Rattle.zone_model.specs.Part.{Part, opening_part, is_local}
+use Rattle.zone_model.specs.Phases.{CycleStays}
+use Rattle.zone_model.specs.State.{State}
 use Rattle.local_set.specs.Calls.{entry_of}
 use Rattle.local_set.specs.LocalSets.{LocalSet, part_in}
 use Rattle.zone_escape.specs.Publications.{is_leave}
@@ -63,6 +66,18 @@ pub record Steps (old new : WorldShown) (t : ℕ) (call : Call) (reply : Reply) 
   pub others : (u : ℕ) → (t == u) ≡ false → local_of new u ≡ local_of old u
   -- it goes on, unless it left
   pub running : is_running new t ≡ not (is_leave call)
+
+-- each state at the end of what was published is so
+abbrev pub AtEnd : WorldShown → (State → Type 0) → Type 0
+AtEnd w P = (z : State) → Ends w.options w.journal z → P z
+
+-- no cycle is open
+abbrev pub IsQuiet : WorldShown → Type 0
+IsQuiet w = AtEnd w (λ z. z.cycle ≡ None)
+
+-- the open cycle is the same at the end of what was published before and now
+abbrev pub CyclesStay : WorldShown → WorldShown → Type 0
+CyclesStay old new = AtEnd new (λ a. (z : State) × Ends old.options old.journal z × ((t : ℕ) → CycleStays t z a))
 
 -- what waits of the thread was published, and nothing else has changed
 abbrev pub with_published : Seen → ℕ → Seen

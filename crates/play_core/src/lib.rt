@@ -12,10 +12,15 @@
 //! What is published is legal, and so is what is published followed by what waits of all threads, in any order of the
 //! threads: the type keeps this, so it holds after every list of steps. No step touches another thread's set.
 //!
-//! `play` makes the calls of a script's lines, one after another, and then each thread leaves, in ascending number. The
+//! A collection of escaped blocks is a cycle of steps of one thread. Others may make their calls between these, and while it
+//! is open its thread may neither begin another nor leave.
+//!
+//! `play` makes the calls of a script's lines, one after another, and then each thread leaves, in ascending number. A line that
+//! asks for a collection has all steps of the cycle, with nothing between. The
 //! history that comes of it is the only one in the order that `play_order` defines.
 #![tactic(auto)]
 
+mod collecting;
 mod playing;
 mod turns;
 mod world;

@@ -4,17 +4,17 @@ ghost use Rattle.std.specs.List.{list_any};
 ghost use Rattle.az_base.specs.OptionRanges.{IsValid};
 ghost use Rattle.heap_script.specs.Scripts.{AllBuilt, IsBuilt};
 ghost use Rattle.zone_history.specs.Histories.{IsHistoryOf, is_asked};
-ghost use Rattle.zone_model.specs.declared.act.Act.{Act};
 ghost use Rattle.play_order.specs.Play.{IsPlayOf, IsProper, threads_of as asked_threads};
 ghost use Rattle.play_order.specs.Playing.{SoFar};
-ghost use Rattle.play_core.specs.Playing.{IsBuiltCall, PlaysLine, CanPlay, requests, requests_of};
+ghost use Rattle.play_core.specs.Playing.{PlaysLine, CanPlay, requests, requests_of};
 ghost use Rattle.play_core.specs.Worlds.{seen};
 
+use crate::collecting::collect;
 use crate::world::World;
 use az_base::{MOST_THREADS, NoMemory, ThreadNo};
 use heap_script::{Act, Line, Script};
 use std::alloc::Global;
-use zone_model::{Call, Entry, Stats};
+use zone_model::{Entry, Stats};
 
 /// The history of a script, and the statistics of its end.
 #[derive(Drop)]
@@ -54,19 +54,7 @@ fn threads_of(alloc: Global, lines: &[Line]) -> Result<Vec<ThreadNo>, NoMemory>
     Ok(threads)
 }
 
-/// The call of a line.
-fn call_of(act: &Act) -> &Call
-    requires { IsBuilt act.now }
-    ensures call { act.now ≡ Act.Call result.now }
-    ensures built { IsBuiltCall result.now }
-{
-    match act {
-        Act::Call(call) => call,
-        Act::Collect(_) => unreachable!(),
-    }
-}
-
-/// One line is played: the thread makes the call.
+/// One line is played: the thread makes the call, or collects.
 fn play_line(
     alloc: Global,
     world: &mut World,
@@ -84,8 +72,13 @@ fn play_line(
 {
     // a thread's number is in its range
     let _number = thread.get();
-    world.step(alloc, thread, call_of(act))?;
-    Ok(())
+    match act {
+        Act::Call(call) => {
+            world.step(alloc, thread, call)?;
+            Ok(())
+        }
+        Act::Collect(mode) => collect(alloc, world, thread, *mode),
+    }
 }
 
 /// Plays the lines in their order.

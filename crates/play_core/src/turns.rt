@@ -1,9 +1,11 @@
 //! A call of a thread, on its own set and the core.
-ghost use Rattle.std.specs.Prelude.{◌≡◌, ◌≤◌, true, false, length, IfOk, OnErr};
-ghost use Rattle.zone_model.specs.History.{is_cycle_step};
+ghost use Rattle.std.specs.Prelude.{◌≡◌, ◌≤◌, true, false, [], length, IfOk, OnErr};
+ghost use Rattle.std.specs.Result.{IsOk};
 ghost use Rattle.zone_model.specs.Part.{is_local as is_local_at};
+ghost use Rattle.zone_model.specs.Phases.{May, is_closing};
+ghost use Rattle.zone_model.specs.State.{State};
 ghost use Rattle.local_set.specs.LocalSets.{part_in};
-ghost use Rattle.zone_escape.specs.Cores.{BelongsTo};
+ghost use Rattle.zone_escape.specs.Cores.{BelongsTo, IsCore, IsCoreOf};
 ghost use Rattle.play_core.specs.Turning.{Turned, Stopped};
 
 use az_base::NoMemory;
@@ -26,6 +28,7 @@ fn flush_and_wait(
     requires full { length local.old.waiting ≡ local.old.options.pending }
     ensures ok { IfOk result (λ reply. Turned local.old local.new core.old core.new call.now reply) }
     ensures err { OnErr result (Stopped local.old local.new core.old core.new) }
+    ensures state { IsCore core.new }
 {
     flush(local, core)?;
     match local.call(alloc, call) {
@@ -45,9 +48,12 @@ pub fn turn(
     requires belongs { BelongsTo local.old core.old }
     requires running { local.old.ended ≡ false }
     requires pending { 1 ≤ local.old.options.pending }
-    requires built { is_cycle_step call.now ≡ false }
+    requires state { IsCore core.old }
+    requires may { (z : State) → IsCoreOf core.old z → May z local.old.thread call.now }
     ensures ok { IfOk result (λ reply. Turned local.old local.new core.old core.new call.now reply) }
     ensures err { OnErr result (Stopped local.old local.new core.old core.new) }
+    ensures sure { is_closing call.now ≡ true → local.old.waiting ≡ [] → IsOk result }
+    ensures state { IsCore core.new }
 {
     match local.call(alloc, call) {
         Ok(reply) => Ok(reply),

@@ -1,15 +1,17 @@
 //! The world.
-ghost use Rattle.std.specs.Prelude.{◌≡◌, ◌<◌, ◌==◌, ◌∷◌, ◌++◌, ◌↔◌, [], ℕ, List, Some, None, MatchOption, true, false, map, position, slice_get, length, IfOk, OnOk, OnErr, IsTrue};
+ghost use Rattle.std.specs.Prelude.{◌≡◌, ◌<◌, ◌==◌, ◌∷◌, ◌++◌, ◌↔◌, [], ℕ, List, Some, None, MatchOption, true, false, map, option_map, position, slice_get, length, IfOk, OnOk, OnErr, IsTrue};
 ghost use Rattle.az_base.specs.OptionRanges.{IsValid};
 ghost use Rattle.std.specs.List.{list_any};
+ghost use Rattle.std.specs.Result.{IsOk};
 ghost use Rattle.zone_model.specs.Bare.{bare_entry};
-ghost use Rattle.zone_model.specs.History.{Ends, Legal, is_cycle_step};
-ghost use Rattle.zone_model.specs.Phases.{May};
-ghost use Rattle.zone_model.specs.State.{State};
+ghost use Rattle.zone_model.specs.History.{Ends, Legal};
+ghost use Rattle.zone_model.specs.Phases.{May, is_closing, left_in};
+ghost use Rattle.zone_model.specs.State.{State, Cycle};
 ghost use Rattle.zone_model.specs.Stats.{stats_of};
 ghost use Rattle.local_set.specs.LocalSets.{LocalSet};
+ghost use Rattle.zone_escape.specs.Publications.{LeavesCycle};
 ghost use Rattle.play_order.specs.Playing.{IsTold};
-ghost use Rattle.play_core.specs.Worlds.{Ascending, EachOnce, threads_in, local_of, waits_of, all_waiting, seen, is_running, Steps, Stops};
+ghost use Rattle.play_core.specs.Worlds.{AtEnd, IsQuiet, CyclesStay, Ascending, EachOnce, threads_in, local_of, waits_of, all_waiting, seen, is_running, Steps, Stops};
 ghost use Rattle.play_core.specs.Opening.{AreNew, opening_seen};
 ghost use Rattle.play_core.specs.Playing.{Turns, ends_among, ends_of, EndStops};
 
@@ -95,7 +97,7 @@ impl World {
 
     /// Whether the thread may make the call: it is there, hasn't left, and its own cycle stands so. O(threads).
     pub fn may(&self, thread: ThreadNo, call: &Call) -> bool
-        ensures { (z : State) → Ends self.now.options self.now.journal z → IsTrue result ↔ (IsTrue (is_running self.now thread) × May z thread call.now) }
+        ensures { AtEnd self.now (λ z. IsTrue result ↔ (IsTrue (is_running self.now thread) × May z thread call.now)) }
     {
         // the core is that of a state
         let _options = self.core.options();
@@ -105,14 +107,20 @@ impl World {
         }
     }
 
-    /// The thread makes the call. NoMemory leaves all as it was, or what waited of the thread was published and nothing else
-    /// has happened. O(threads) beside the call, and what it publishes.
+    /// The thread makes the call, which it may make (`may`). NoMemory leaves all as it was, or what waited of the thread was
+    /// published and nothing else has happened. Once a cycle has begun, its Condemn, each Finalise and its Reclaim are never
+    /// refused where nothing waits. O(threads) beside the call, and what it publishes.
     pub fn step(&mut self, alloc: Global, thread: ThreadNo, call: &Call) -> Result<Reply, NoMemory>
         requires running { is_running self.old thread ≡ true }
-        requires built { is_cycle_step call.now ≡ false }
+        requires may { AtEnd self.old (λ z. May z thread call.now) }
         ensures told { IsTold (seen self.old) thread }
         ensures ok { IfOk result (λ reply. Steps self.old self.new thread call.now reply) }
         ensures err { OnErr result (Stops (seen self.old) (seen self.new) thread) }
+        ensures sure { is_closing call.now ≡ true → waits_of self.old thread ≡ [] → IsOk result }
+        // a call that is no step of a cycle leaves the open one, and so does one that is busy or refused
+        ensures cycle { IfOk result (λ reply. LeavesCycle call.now reply → CyclesStay self.old self.new) }
+        ensures refused { OnErr result (CyclesStay self.old self.new) }
+        ensures legal { Legal self.new.options self.new.journal }
         ensures threads { threads_in self.new.locals ≡ threads_in self.old.locals }
     {
         // the core is that of a state
@@ -151,6 +159,21 @@ impl World {
         self.core.stats()
     }
 
+    /// The thread whose cycle is open; None exactly where none is. O(1).
+    pub fn open_cycle(&self) -> Option<ThreadNo>
+        ensures { AtEnd self.now (λ z. result ≡ option_map (λ (c : Cycle). c.owner) z.cycle) }
+    {
+        self.core.open_cycle()
+    }
+
+    /// How many condemned blocks wait for their finaliser; 0 where nothing is condemned. O(1).
+    pub fn to_finalise(&self) -> u32
+        ensures left { AtEnd self.now (λ z. result ≡ left_in z) }
+        ensures legal { Legal self.now.options self.now.journal }
+    {
+        self.core.to_finalise()
+    }
+
     /// How many threads have a set. O(1).
     fn count(&self) -> usize
         ensures { result ≡ length self.now.locals }
@@ -169,6 +192,8 @@ impl World {
 
     /// The thread leaves, where it is there and hasn't left.
     fn leave(&mut self, alloc: Global, thread: ThreadNo) -> Result<(), NoMemory>
+        requires quiet { IsQuiet self.old }
+        ensures quiet { OnOk result (IsQuiet self.new) }
         ensures ok { OnOk result (Turns (seen self.old) (ends_among self.old (thread ∷ [])) (seen self.new)) }
         ensures err { OnErr result (Stops (seen self.old) (seen self.new) thread) }
         ensures others { OnOk result ((u : ℕ) → (thread == u) ≡ false → local_of self.new u ≡ local_of self.old u) }
@@ -180,9 +205,11 @@ impl World {
         Ok(())
     }
 
-    /// Each thread that hasn't left leaves, in ascending number; the statistics of the end. Where memory is wanting, those
-    /// that left before stay left, and what waited of the next one may have been published. O(what it publishes, blocks).
+    /// Each thread that hasn't left leaves, in ascending number; the statistics of the end. A thread with an open cycle may
+    /// not leave, so none is open. Where memory is wanting, those that left before stay left, and what waited of the next
+    /// one may have been published. O(what it publishes, blocks).
     pub fn end(&mut self, alloc: Global) -> Result<Stats, NoMemory>
+        requires quiet { IsQuiet self.old }
         ensures ok { OnOk result (Turns (seen self.old) (ends_of self.old) (seen self.new)) }
         ensures stats { IfOk result (λ stats. (z : State) → Ends self.new.options self.new.journal z → stats ≡ stats_of z) }
         ensures legal { OnOk result (Legal self.new.options self.new.journal) }

@@ -1,5 +1,4 @@
-ghost use Rattle.std.specs.Prelude.{◌≡◌, ◌≤◌, false};
-ghost use Rattle.zone_model.specs.History.{is_cycle_step};
+ghost use Rattle.std.specs.Prelude.{◌≤◌};
 ghost use Rattle.play_core.specs.Worlds.{Ascending};
 
 use az_base::{NoMemory, Options, Reg, ThreadNo};
@@ -19,10 +18,16 @@ fn world_of(alloc: Global, threads: &[ThreadNo], pending: u32) -> Result<World, 
 }
 
 /// Whether the thread may make the call, and makes it.
-fn makes(alloc: Global, world: &mut World, thread: ThreadNo, call: &Call) -> bool
-    requires { is_cycle_step call.now ≡ false }
-{
+fn makes(alloc: Global, world: &mut World, thread: ThreadNo, call: &Call) -> bool {
     world.is_running(thread) && world.may(thread, call) && world.step(alloc, thread, call).is_ok()
+}
+
+/// Whether no cycle is open, and the threads that are left leave.
+fn closes(alloc: Global, world: &mut World) -> bool {
+    if world.open_cycle().is_some() {
+        return false;
+    }
+    world.end(alloc).is_ok()
 }
 
 /// Whether so many entries are published, and so many wait of two threads.
@@ -47,7 +52,7 @@ fn waits(alloc: Global, world: &mut World, one: ThreadNo, two: ThreadNo, reg: Re
 
 /// The thread that is left leaves, and no other.
 fn ends(alloc: Global, world: &mut World, one: ThreadNo, two: ThreadNo) -> bool {
-    world.end(alloc).is_ok() && has(world, 5, [one, two], [0, 0]) && !world.is_running(one)
+    closes(alloc, world) && has(world, 5, [one, two], [0, 0]) && !world.is_running(one)
 }
 
 /// Where one entry may wait, the second local call publishes the first.
@@ -56,7 +61,7 @@ fn publishes(alloc: Global, world: &mut World, one: ThreadNo, two: ThreadNo, reg
         && has(world, 0, [one, two], [1, 0])
         && makes(alloc, world, one, &Call::DropReg { reg })
         && has(world, 1, [one, two], [1, 0])
-        && world.end(alloc).is_ok()
+        && closes(alloc, world)
         && has(world, 4, [one, two], [0, 0])
 }
 

@@ -6,7 +6,7 @@ use Rattle.play_order.specs.Playing.{Seen}
 use Rattle.play_order.proofs.Whole.{play_history}
 use Rattle.play_core.specs.Playing.{requests, requests_of}
 use Rattle.play_core.specs.Worlds.{Ascending}
-use Rattle.play_core.proofs.Lines.{threads_ascend, so_far_opened, play_is}
+use Rattle.play_core.proofs.Lines.{threads_ascend, so_far_opened, quiet_opened, play_is}
 use Rattle.play_core.proofs.playing.play.Goals as goal
 
 pub new-requires-clause-ascending : goal.new-requires-clause-ascending
@@ -18,7 +18,7 @@ play_all-played-requires-clause-opened c = so_far_opened c.in_ok-world.world c.a
 pub play_all-played-requires-clause-running : goal.play_all-played-requires-clause-running
 play_all-played-requires-clause-running c =
     let asked = c.deref.ensures.value ∙ c.in_ok-threads.ensures in
-    record { threads = c.in_ok-world.ensures.threads ∙ asked; running = λ t. c.in_ok-world.ensures.running t ∙ ap (list_any (λ u. u == t)) asked }
+    record { threads = c.in_ok-world.ensures.threads ∙ asked; running = λ t. c.in_ok-world.ensures.running t ∙ ap (list_any (λ u. u == t)) asked; quiet = quiet_opened c.in_ok-world.world c.args.script.now.options c.in_ok-world.ensures.seen }
 
 pub returns-in-Ok-clause-ordered : goal.returns-in-Ok-clause-ordered
 returns-in-Ok-clause-ordered c =
