@@ -14,12 +14,16 @@
 //! ids up. The type keeps that it is right: a block with that id lies there. So a block may be freed only where no word of
 //! a block that stays knows it to lie there; blocks that refer to one another are freed in one call (`free_all`).
 //!
+//! Who marks knows a block by its quantum (`Spot`), whose byte has the shade and at which the words begin. `visit_words` goes
+//! along the words of a block and greys the white blocks to which they refer, by the places that the words know.
+//!
 //! Room is taken first. `reserve` takes it for blocks of given lengths, which come in that order, and is the only call
 //! that may want memory; `place` then puts each into its hole. What calls cost:
 //!
 //! - `place` O(quanta and words of the block), and what its search passes over; `free` and `free_all` O(quanta of the
 //!   blocks);
 //! - `reserve` and `may_reserve` O(lengths asked for, and those still to come), and `reserve` what it adds besides;
+//! - `visit_words` O(words of the block);
 //! - `whiten_all` and `age_all` O(bytes of all subzones), and `knows_no_place` O(their words);
 //! - all else O(1).
 #![tactic(auto)]
