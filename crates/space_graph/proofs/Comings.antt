@@ -17,13 +17,12 @@ use Rattle.space_graph.proofs.Positions.{all_first, first_more, found_back, foun
 use Rattle.space_graph.proofs.Visits.{byte_here, byte_there, id_same, layout_same, shade_shaded, shaded_used}
 
 -- no block
-pub none_graph : (rows : List (BlockId × Spot)) (s : Space') (anchors remembered : List BlockId) → rows ≡ [] → ((x : Spot) → layout_in s x ≡ None) → remembered ≡ []
+pub none_graph : (rows : List (BlockId × Spot)) (s : Space') (anchors remembered : List BlockId) → rows ≡ [] → ((x : Spot) → layout_in s x ≡ None)
     → IsGraph (record { rows = rows; space = s; began = 0; anchors = anchors; remembered = remembered })
-none_graph rows s anchors remembered e none f = record {
+none_graph rows s anchors remembered e none = record {
   once = subst (λ (es : List (BlockId × Spot)). Once (keys_of es)) (sym e) tt;
   few = (let n : length rows ≡ 0 = ap length e in omega (arith, n));
   began = omega arith;
-  cards = (let n : length remembered ≡ 0 = ap length f in omega (arith, n));
   there = λ id x h. (let g : spot_for [] id ≡ Some x = ap (λ (es : List (BlockId × Spot)). spot_for es id) (sym e) ∙ h in cc);
   back = λ x l h. (let n = none x in cc);
   used = λ x l h. (let n = none x in cc);
@@ -36,7 +35,6 @@ all_begun g n inv e = record {
   once = inv.once;
   few = inv.few;
   began = omega (arith, e);
-  cards = inv.cards;
   there = inv.there;
   back = inv.back;
   used = inv.used;
@@ -49,7 +47,6 @@ alike_graph g s inv same = record {
   once = inv.once;
   few = inv.few;
   began = inv.began;
-  cards = inv.cards;
   there = λ id x e. (let h = inv.there id x e in (subst (λ (o : Option Layout). MatchOption o ⊥ (λ l. ⊤)) (sym (same.layouts x)) h.0, same.ids x ∙ h.1));
   back = λ x l e. subst (λ q. spot_for g.rows q ≡ Some x) (sym (same.ids x)) (inv.back x l (sym (same.layouts x) ∙ e));
   used = λ x l e. subst (λ n. 128 ≤ n) (sym (same.bytes x)) (inv.used x l (sym (same.layouts x) ∙ e));
@@ -114,7 +111,6 @@ graph_more g rows new id l x inv few none e put =
       once = subst Once (sym (keys_more g.rows id x)) (once_push (keys_of g.rows) id inv.once (none_has g.rows id none));
       few = (let n = rows_longer g.rows id x in omega (arith, few, n));
       began = (let n = rows_longer g.rows id x in omega (arith, inv.began, n));
-      cards = inv.cards;
       there = there;
       back = λ y o h. elim (put.only y o h) [
         | inl s ↦ subst (λ (z : Spot). spot_for more (id_in new z) ≡ Some z) (sym s) (ap (spot_for more) put.its_id ∙ found_last g.rows id x none)

@@ -124,7 +124,6 @@ graph_word v inv x i w = record {
   once = inv.once;
   few = inv.few;
   began = inv.began;
-  cards = inv.cards;
   there = λ id y e. (let h = inv.there id y e in (subst (λ (o : Option Layout). MatchOption o ⊥ (λ l. ⊤)) (sym (word_layout v.space x i w y)) h.0, word_id v.space x i w y ∙ h.1));
   back = λ y l e. subst (λ q. spot_for v.rows q ≡ Some y) (sym (word_id v.space x i w y)) (inv.back y l (sym (word_layout v.space x i w y) ∙ e));
   used = λ y l e. subst (λ n. 128 ≤ n) (sym (word_byte v.space x i w y)) (inv.used y l (sym (word_layout v.space x i w y) ∙ e));

@@ -119,7 +119,6 @@ module _ (g : Graph') (inv : IsGraph g) (x : Spot) (has : HasBlockIn g.space x) 
     once = inv.once;
     few = inv.few;
     began = inv.began;
-    cards = inv.cards;
     there = λ id y e. (let h = inv.there id y e in (has_same g.space new y same h.0, id_same g.space new y same ∙ h.1));
     back = λ y l e. subst (λ q. spot_for g.rows q ≡ Some y) (sym (id_same g.space new y same)) (inv.back y l (sym (layout_same g.space new y same) ∙ e));
     used = λ y l e. by_spot (λ n. 128 ≤ n) y used (λ d. inv.used y l (sym (layout_same g.space new y same) ∙ e));

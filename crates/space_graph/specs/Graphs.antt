@@ -74,7 +74,6 @@ pub record IsGraph (g : Graph') : Type 0 where
   pub once : Once (keys_of g.rows)
   pub few : length g.rows < 2 ^ 32
   pub began : g.began ≤ length g.rows
-  pub cards : length g.remembered < 2 ^ 32
   pub there : (id : BlockId) (x : Spot) → spot_for g.rows id ≡ Some x → HasBlockIn g.space x × (id_in g.space x ≡ id)
   pub back : (x : Spot) (l : Layout) → layout_in g.space x ≡ Some l → spot_for g.rows (id_in g.space x) ≡ Some x
   pub used : (x : Spot) (l : Layout) → layout_in g.space x ≡ Some l → 128 ≤ byte_in g.space x

@@ -2,4 +2,4 @@ use Rattle.space_graph.proofs.Comings.{none_graph}
 use Rattle.space_graph.proofs.graph.SpaceGraph.new.Goals as goal
 
 pub invariant_of-result : goal.invariant_of-result
-invariant_of-result c = none_graph c.new.result.list c.new-2.result c.new-3.result.items c.new-4.result.items c.new.ensures c.new-2.ensures.by_quantum c.new-4.ensures.items
+invariant_of-result c = none_graph c.new.result.list c.new-2.result c.new-3.result.items c.new-4.result.items c.new.ensures c.new-2.ensures.by_quantum
