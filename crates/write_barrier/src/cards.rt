@@ -9,6 +9,7 @@ ghost use Rattle.write_barrier.specs.Remembered.{with_block, without_block};
 use az_base::{BlockId, NoMemory};
 use std::alloc::Global;
 use std::marker::Model;
+use std::mem;
 
 /// A set of blocks in ascending order, and room for more: for how many can be remembered without asking for memory.
 #[derive(Drop)]
@@ -46,6 +47,7 @@ impl Cards {
     /// O(n log n).
     pub fn from_vec(ids: Vec<BlockId>) -> Cards
         ensures blocks { (b : BlockId) → among result.list b ≡ among ids.items b }
+        ensures ascends { IsStrictlySortedBy id_cmp result.list }
         ensures room { length result.list + result.spare ≡ vec_capacity ids }
     {
         let mut ids = ids;
@@ -62,6 +64,20 @@ impl Cards {
         ensures room { vec_capacity result ≡ length self.list + self.spare }
     {
         self.ids
+    }
+
+    /// None is remembered any more, and the list, which is empty, is for who remembers anew: cards are made of it by
+    /// `from_vec`. It takes no memory. O(1).
+    pub fn take_room(&mut self) -> Vec<BlockId>
+        ensures none { self.new.list ≡ [] }
+        ensures spent { self.new.spare ≡ 0 }
+        ensures empty { result.items ≡ [] }
+        ensures room { vec_capacity result ≡ length self.old.list + self.old.spare }
+    {
+        let alloc = *self.ids.allocator();
+        let mut ids = mem::replace(&mut self.ids, Vec::new(alloc));
+        ids.clear();
+        ids
     }
 
     /// Takes room for this many more blocks. O(1), and O(blocks) where the list grows.
