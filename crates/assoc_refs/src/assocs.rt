@@ -81,8 +81,12 @@ impl Assocs {
     /// Takes room for one more value of the object. O(1), and O(values of the object) where its list grows.
     pub fn reserve_one(&mut self, object: BlockId) -> Result<(), NoMemory>
         ensures ok { OnOk result (self.new ≡ record self.old { ready = Some object }) }
+        ensures sure { self.old.ready ≡ Some object → IsOk result }
         ensures err { OnErr result (self.new ≡ self.old) }
     {
+        if self.ready == Some(object) {
+            return Ok(());
+        }
         if self.total == usize::MAX {
             return Err(NoMemory);
         }
