@@ -118,4 +118,26 @@ impl Marker {
             ids: IdList::from_vec(ids),
         }
     }
+
+    /// Greys the anchors again, scans to the end, and gives the white blocks, for mode young the young ones, ascending, as
+    /// `finish` does; it is for who counts no steps. It takes no memory. O(blocks and edges), and O(c log c) for c
+    /// condemned blocks.
+    pub fn finish_uncounted<G: Graph>(self, graph: &mut G) -> Condemned
+        requires tracks { Tracks self (G.shape graph.old).blocks (G.shades graph.old) }
+        requires shut { Shut self.mode (G.shape graph.old) (G.shades graph.old) }
+        ensures ids { (b : BlockId) → among result.ids.list b ≡ among (filter (is_left self.mode (G.shape graph.old) (G.shades graph.new)) (G.shape graph.old).blocks) b }
+        ensures shut { Shut self.mode (G.shape graph.new) (G.shades graph.new) }
+        ensures no_grey { NoGrey (G.shape graph.new).blocks (G.shades graph.new) }
+        ensures finishes { Finishes self.mode (G.shape graph.old) (G.shades graph.old) (G.shades graph.new) }
+        ensures only { OnlyShades G G.Rest G.shape G.rest graph.old graph.new }
+    {
+        let Marker { mut walk } = self;
+        walk.grey_anchors(graph);
+        walk.scan_all(graph);
+        let mut ids = walk.gather(graph);
+        ids.sort_unstable();
+        Condemned {
+            ids: IdList::from_vec(ids),
+        }
+    }
 }
