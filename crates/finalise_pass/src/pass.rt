@@ -55,6 +55,16 @@ impl Pass {
         }
     }
 
+    /// Whether it is one of the condemned blocks. O(log condemned).
+    pub fn has(&self, id: BlockId) -> bool
+        ensures { result ≡ among self.now.condemned id }
+    {
+        match self.condemned.as_slice().binary_search(&id) {
+            Ok(_) => true,
+            Err(_) => false,
+        }
+    }
+
     /// The least condemned block, from where the pass has come to, that has an action and isn't done; None exactly where
     /// there is none. It is the least of all as long as no block that the pass has gone past awaits anything again. O(the
     /// blocks between).
