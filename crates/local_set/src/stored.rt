@@ -1,5 +1,5 @@
 //! One unescaped block.
-ghost use Rattle.std.specs.Prelude.{◌≡◌, ◌≤◌, [], ◌∷◌, Some, false, length, slice_get, slice_set, IfOk, IsFalse};
+ghost use Rattle.std.specs.Prelude.{◌≡◌, ◌≤◌, [], ◌∷◌, Some, false, length, nat_lt, slice_get, slice_set, IfOk};
 ghost use Rattle.az_base.specs.declared.word.Word.TheVariants as word;
 ghost use Rattle.block_layouts.specs.Layouts.{class_at, same_class, len_of, quanta};
 ghost use Rattle.zone_model.specs.Part.{own_block};
@@ -92,7 +92,7 @@ impl OwnBlock {
 
     /// Whether a word refers to a block. O(1).
     pub fn refers(&self) -> bool
-        ensures { IsFalse result → references_in self.now.words ≡ 0 }
+        ensures { result ≡ nat_lt 0 (references_in self.now.words) }
     {
         self.references > 0
     }
