@@ -1,3 +1,3 @@
-mod Finished
-mod Reaching
-mod Settled
+pub mod Finished
+pub mod Reaching
+pub mod Settled
