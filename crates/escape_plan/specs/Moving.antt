@@ -16,6 +16,7 @@ use Rattle.shared_heap.specs.Stands.{Stands}
 use Rattle.local_set.specs.Holds.{outs}
 use Rattle.local_set.specs.LocalSets.{LocalSet, part_in}
 use Rattle.local_set.specs.Tables.{Distinct}
+use Rattle.escape_plan.specs.Escapes.{KeepsCycle}
 use Rattle.escape_plan.specs.Planning.{quanta_at, lengths_of, sum_of}
 
 -- the set has its thread's part of the state and the heap what is shared of it, with the holds; so much of belonging together
@@ -56,4 +57,5 @@ pub record Moves (l m : LocalSet) (h k : Shared) (id : BlockId) : Type 0 where
   pub ready : k.ready ≡ h.ready
   pub room : k.room ≡ drop 1 h.room
   pub used : used_by k.blocks ≡ used_by h.blocks + quanta_at (part_in l).blocks id
+  pub cycle : KeepsCycle h k
   pub agree : (z : State) → Agree l h z → Agree m k (with_escaped z (same_id id))

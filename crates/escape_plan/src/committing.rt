@@ -7,6 +7,7 @@ ghost use Rattle.zone_model.specs.Escape.{with_escaped};
 ghost use Rattle.shared_heap.specs.Holding.{refers_to};
 ghost use Rattle.local_set.specs.LocalSets.{part_in};
 ghost use Rattle.escape_plan.specs.Together.{Belongs, IsHeapOf, Together};
+ghost use Rattle.escape_plan.specs.Escapes.{KeepsCycle};
 ghost use Rattle.escape_plan.specs.Planning.{IsWhole, PlanFits, lengths_of};
 ghost use Rattle.escape_plan.specs.Moving.{Agree, refer_to, Told, CanTell, CanMove, Moves};
 
@@ -66,6 +67,7 @@ fn move_all(local: &mut Local, heap: &mut Heap, ids: &[BlockId])
     ensures local { local.new ≡ record local.old { blocks = local.new.blocks } }
     ensures ready { heap.new.ready ≡ heap.old.ready }
     ensures room { heap.new.room ≡ [] }
+    ensures cycle { KeepsCycle heap.old heap.new }
 {
     for id in ids {
         move_one(local, heap, *id);
@@ -83,6 +85,7 @@ pub fn commit(plan: EscapePlan, local: &mut Local, heap: &mut Heap)
     ensures escaped { (z : State) → Belongs local.old z → IsHeapOf heap.old z → Together local.new heap.new (with_escaped z (among plan.ids)) }
     ensures local { local.new ≡ record local.old { blocks = local.new.blocks } }
     ensures ready { heap.new.ready ≡ heap.old.ready }
+    ensures cycle { KeepsCycle heap.old heap.new }
 {
     move_all(local, heap, plan.ids());
 }

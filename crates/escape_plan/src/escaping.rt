@@ -2,7 +2,7 @@
 ghost use Rattle.std.specs.Prelude.{◌≡◌, [], OnOk, OnErr, IfOk};
 ghost use Rattle.escape_plan.specs.Together.{AreTogether, StayTogether};
 ghost use Rattle.escape_plan.specs.Planning.{Plans, firsts, lengths_of};
-ghost use Rattle.escape_plan.specs.Escapes.{Escapes, HasRoom, KeepsRest};
+ghost use Rattle.escape_plan.specs.Escapes.{Escapes, HasRoom, KeepsCycle, KeepsRest};
 ghost use Rattle.local_set.specs.LocalSets.{part_in};
 
 use crate::committing::commit;
@@ -48,6 +48,7 @@ pub fn escape(
     ensures ok { IfOk result (λ fit. Escapes local.old local.new heap.old heap.new object value fit) }
     ensures rest { KeepsRest local.old local.new }
     ensures ready { OnOk result (HasRoom heap.new.ready object value) }
+    ensures cycle { KeepsCycle heap.old heap.new }
     ensures err { OnErr result (StayTogether local.old local.new heap.old heap.new) }
 {
     let (object, value) = (&object, &value);

@@ -3,7 +3,7 @@ use Rattle.std.proofs.Common.{◌≡◌, ℕ, cond, Option, Some, None, is_some,
 use Rattle.std.specs.FinMap.{get}
 use Rattle.zone_model.specs.State.{State, Block, Cycle}
 use Rattle.zone_model.specs.SameShared.{escaped_only, SeesMore, SameShared}
-use Rattle.shared_heap.specs.Collector.{Collecting}
+use Rattle.heap_cycle.specs.Collector.{Collecting}
 use Rattle.shared_heap.specs.Shared.{Shared}
 use Rattle.heap_tables.specs.Standing.{escaped_view}
 use Rattle.shared_heap.specs.Stands.{Stands, StandsCycle, SameCycle}

@@ -18,8 +18,9 @@ use Rattle.zone_model.specs.State.{State, Cycle, Moment, moment}
 use Rattle.zone_model.specs.Step.{with_moment, seen_now}
 use Rattle.zone_model.proofs.Anchoring.{held_anchored}
 use Rattle.zone_model.proofs.Moments.{sees, seeing, was_more, was_now}
-use Rattle.shared_heap.specs.Collector.{Collecting, Collector, shade_in, no_collector}
-use Rattle.shared_heap.specs.Cycles.{AfterBarrier, Livens, IsOpenOf, IsMarking, IsSettling, enlivened, of_option, blocks_in, unshaded}
+use Rattle.heap_cycle.specs.Collector.{Collecting, Collector, shade_in, no_collector}
+use Rattle.shared_heap.specs.Cycles.{AfterBarrier, IsOpenOf, IsMarking, IsSettling}
+use Rattle.heap_cycle.specs.Livening.{Livens, enlivened, of_option, blocks_in, unshaded}
 use Rattle.shared_heap.specs.Shared.{Shared, with_gc}
 use Rattle.shared_heap.specs.Stands.{Stands, StandsCycle, SameCycle}
 

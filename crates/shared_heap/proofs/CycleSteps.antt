@@ -1,5 +1,5 @@
 -- What the calls of a cycle have to be, so that they are steps of the states for which the heap stands
-use Rattle.std.proofs.Common.{◌≡◌, ◌≢◌, ◌+◌, ◌-◌, ◌≤◌, ◌==◌, ℕ, min, Bool, true, false, not, cond, Option, Some, None, IsTrue, option_map, refl, sym, ap, subst, ◌∙◌, arith}
+use Rattle.std.proofs.Common.{◌≡◌, ◌≢◌, ◌+◌, ◌-◌, ◌≤◌, ◌==◌, ℕ, min, Bool, true, false, not, cond, Option, Some, None, IsTrue, is_some, option_map, refl, sym, ap, subst, ◌∙◌, arith}
 use Rattle.std.proofs.lemmas.Bool.Decides.{nat_tests}
 use Rattle.std.specs.Option.{option_map_or, option_and_then}
 use Rattle.std.specs.FinMap.{get, retain_keys, empty}
@@ -18,7 +18,7 @@ use Rattle.zone_model.proofs.Anchoring.{of_moment, to_moment}
 use Rattle.zone_model.proofs.Blocks.{left_get}
 use Rattle.zone_model.proofs.Moments.{seeing, was_now}
 use Rattle.zone_model.proofs.Steps.{step_plain}
-use Rattle.shared_heap.specs.Collector.{Collecting, Collector, shade_in}
+use Rattle.heap_cycle.specs.Collector.{Collecting, Collector, shade_in}
 use Rattle.block_table.specs.Stored.{older}
 use Rattle.shared_heap.specs.Cycles.{IsOpenOf, IsMarking, Opens, Darkens, Condemned, Reclaimed}
 use Rattle.shared_heap.specs.Holding.{Serves}
@@ -56,6 +56,18 @@ none_of_all h t own free = go h.gc.cycle refl free
         by : (b : Bool) → (g.owner == t) ≡ b → not b ≡ false → Some g ≡ None
         by true k n = absurd (own g (e, same_number g.owner t k))
         by false k n = cc (n)
+
+-- and where one is open that isn't the thread's, it is busy
+pub busy_of : (h : Shared) (t : ℕ) → ((g : Collecting) → IsOpenOf h t g → ⊥) → is_some h.gc.cycle ≡ true → is_busy h t ≡ true
+busy_of h t own is = go h.gc.cycle refl is
+  where
+    go : (o : Option Collecting) → h.gc.cycle ≡ o → is_some o ≡ true → option_map_or (λ g. not (g.owner == t)) o false ≡ true
+    go None e f = cc (f)
+    go (Some g) e f = by (g.owner == t) refl
+      where
+        by : (b : Bool) → (g.owner == t) ≡ b → not (g.owner == t) ≡ true
+        by true k = absurd (own g (e, same_number g.owner t k))
+        by false k = ap not k
 
 -- Begin
 pub begin_step : (h : Shared) (z : State) (t : ℕ) (mode : Mode) (gc : Collector) → Serves h z t → ((g : Collecting) → IsOpenOf h t g → ⊥) → is_busy h t ≡ false → (o : Opens h t mode gc)

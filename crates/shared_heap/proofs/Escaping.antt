@@ -9,8 +9,8 @@ use Rattle.zone_model.specs.Escape.{with_escaped}
 use Rattle.zone_model.specs.Reached.{OpenReached}
 use Rattle.zone_model.specs.State.{State, Block, is_unescaped}
 use Rattle.zone_model.proofs.Anchoring.{anchored_edge, unescaped_anchored}
-use Rattle.shared_heap.specs.Collector.{Collector}
-use Rattle.shared_heap.specs.Cycles.{Livens, blocks_in}
+use Rattle.heap_cycle.specs.Collector.{Collector}
+use Rattle.heap_cycle.specs.Livening.{Livens, blocks_in}
 use Rattle.shared_heap.specs.Shared.{Shared, admitted, with_gc}
 use Rattle.shared_heap.specs.Stands.{Stands}
 use Rattle.shared_heap.specs.Steps.{IsUnescaped}

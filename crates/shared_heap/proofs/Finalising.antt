@@ -15,11 +15,13 @@ use Rattle.zone_model.specs.Sound.{Sound}
 use Rattle.zone_model.specs.State.{State, Block, Cycle, is_nil, moment, referent, word_at, with_edit}
 use Rattle.zone_model.specs.Step.{seen_now}
 use Rattle.zone_model.proofs.Steps.{step_plain}
-use Rattle.shared_heap.specs.Collector.{Collecting}
+use Rattle.heap_cycle.specs.Collector.{Collecting}
 use Rattle.heap_tables.specs.Running.{actions_in}
-use Rattle.shared_heap.specs.Cycles.{IsNext, IsSettling, after_action, finalised, one_left_less}
+use Rattle.shared_heap.specs.Cycles.{IsNext, IsSettling, finalised, one_left_less}
+use Rattle.heap_cycle.specs.Phases.{after_action}
 use Rattle.shared_heap.specs.Holding.{Serves}
-use Rattle.shared_heap.specs.Shared.{Shared, awaits_in, waits}
+use Rattle.shared_heap.specs.Shared.{Shared}
+use Rattle.heap_cycle.specs.Waiting.{awaits_in, waits}
 use Rattle.heap_tables.specs.Standing.{kept_of, escaped_view}
 use Rattle.shared_heap.specs.Stands.{Stands, SameCycle}
 use Rattle.shared_heap.specs.Steps.{Stepped}
@@ -86,7 +88,7 @@ module _ (h : Shared) (z : State) (b : BlockId) (s : Stands h z) (here : (at : �
 pub finds_same : (f g : BlockId → Bool) (xs : List BlockId) → ((x : BlockId) → f x ≡ g x) → find f xs ≡ find g xs
 finds_same f g xs same = ap (λ (t : BlockId → Bool). find t xs) (λ i x. same x i)
 
-found_here : (f : BlockId → Bool) (xs : List BlockId) (b : BlockId) → find f xs ≡ Some b → f b ≡ true
+pub found_here : (f : BlockId → Bool) (xs : List BlockId) (b : BlockId) → find f xs ≡ Some b → f b ≡ true
 found_here f [] b e = cc (e)
 found_here f (x ∷ xs) b e = by (f x) refl (found_here f xs b) e
   where

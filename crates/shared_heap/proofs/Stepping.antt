@@ -30,7 +30,8 @@ use Rattle.zone_model.specs.Misuses.{Named, words_named, null_block, no_word, wr
 use Rattle.zone_model.specs.Step.{seen_now}
 use Rattle.zone_model.proofs.Steps.{step_plain, step_misuse}
 use Rattle.block_table.specs.Stored.{HeapBlock}
-use Rattle.shared_heap.specs.Cycles.{AfterBarrier, Livens, of_option}
+use Rattle.shared_heap.specs.Cycles.{AfterBarrier}
+use Rattle.heap_cycle.specs.Livening.{Livens, of_option}
 use Rattle.block_table.specs.Table.{used_by}
 use Rattle.shared_heap.specs.Shared.{Shared, written, rooted, stats_in, with_gc}
 use Rattle.heap_tables.specs.Standing.{kept_of, escaped_view}

@@ -19,7 +19,8 @@ use Rattle.zone_model.specs.Misuses.{is_overfull}
 use Rattle.zone_model.proofs.Totals.{total_added}
 use Rattle.block_table.specs.Stored.{HeapBlock, newly}
 use Rattle.block_table.specs.Table.{used_by}
-use Rattle.shared_heap.specs.Shared.{Shared, number_of, unfinalised_by, waits}
+use Rattle.shared_heap.specs.Shared.{Shared, number_of}
+use Rattle.heap_cycle.specs.Waiting.{unfinalised_by, waits}
 use Rattle.heap_tables.specs.Standing.{kept_of}
 use Rattle.shared_heap.specs.Stands.{Stands}
 use Rattle.shared_heap.proofs.Picks.{total-picked, total-zero}

@@ -20,7 +20,7 @@ use Rattle.az_base.specs.WithValue.{with_value}
 use Rattle.zone_model.specs.State.{State, with_weak, with_register}
 use Rattle.zone_model.specs.Step.{seen_now}
 use Rattle.zone_model.proofs.Steps.{step_plain}
-use Rattle.shared_heap.specs.Cycles.{Livens, of_option}
+use Rattle.heap_cycle.specs.Livening.{Livens, of_option}
 use Rattle.block_table.specs.Table.{used_by}
 use Rattle.shared_heap.specs.Shared.{Shared, with_gc}
 use Rattle.shared_heap.specs.Stands.{Stands, EscapedClosed}

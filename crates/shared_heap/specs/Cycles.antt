@@ -1,24 +1,24 @@
 -- What the calls of a cycle do, told from what the heap shows
-use Rattle.std.specs.Prelude.{◌≡◌, ◌≢◌, ◌≤◌, ◌-◌, ◌&&◌, ◌⊎◌, ◌↔◌, ℕ, true, not, List, [], ◌∷◌, Option, None, Some, IsTrue, IsSome, if◌then◌else◌, find, fold, option_map, slice_set, slice_get, count_by}
+use Rattle.std.specs.Prelude.{◌≡◌, ◌≢◌, ◌≤◌, ◌-◌, ◌⊎◌, ◌↔◌, ℕ, true, not, List, [], Option, None, Some, IsTrue, IsFalse, IsSome, if◌then◌else◌, find, fold, option_map, slice_get, count_by}
 use Rattle.std.specs.Option.{option_map_or}
 use Rattle.std.specs.List.Sorted.{IsStrictlySortedBy}
-use Rattle.std.specs.FinMap.{FinMap, get, retain_keys, empty}
-use Rattle.az_base.specs.declared.action.Action.{Action}
-use Rattle.az_base.specs.declared.action.Action.TheVariants as action
+use Rattle.std.specs.FinMap.{get, retain_keys, empty}
 use Rattle.az_base.specs.declared.action.Mode.{Mode}
 use Rattle.az_base.specs.declared.block_id.BlockId.{BlockId}
-use Rattle.az_base.specs.declared.word.Word.{Word}
 use Rattle.az_base.specs.declared.word.Word.TheVariants as word
 use Rattle.az_base.specs.Ids.{id_cmp, among}
-use Rattle.quantum_space.specs.declared.shade.Shade.{Shade}
 use Rattle.quantum_space.specs.declared.shade.Shade.TheVariants as shade
-use Rattle.gen_marker.specs.Marking.{blacks, is_white}
+use Rattle.gen_marker.specs.Marking.{blacks}
 use Rattle.zone_model.specs.declared.entry.Reply.{Reply}
 use Rattle.zone_model.specs.declared.entry.Reply.TheVariants as reply
-use Rattle.zone_model.specs.State.{referent, with_edit, is_word_of}
+use Rattle.zone_model.specs.State.{with_edit, is_word_of}
 use Rattle.zone_model.specs.Collection.{shows_one}
-use Rattle.shared_heap.specs.Collector.{Collecting, Collector, shade_in}
-use Rattle.shared_heap.specs.Shared.{Shared, awaits_in, unfinalised_by, is_old_in, is_young_in}
+use Rattle.heap_cycle.specs.Collector.{Collecting, Collector, shade_in}
+use Rattle.shared_heap.specs.Shared.{Shared}
+use Rattle.heap_cycle.specs.Collects.{is_old_at}
+use Rattle.heap_cycle.specs.Waiting.{awaits_in, unfinalised_by}
+use Rattle.heap_cycle.specs.Livening.{Livens}
+use Rattle.heap_cycle.specs.Phases.{after_action}
 use Rattle.block_table.specs.Stored.{HeapBlock, older}
 use Rattle.heap_tables.specs.Running.{actions_in}
 
@@ -89,11 +89,6 @@ abbrev pub AfterCondemn : Shared → Reply → Shared → Type 0
 AfterCondemn h (reply.Condemned r) new = Condemned h r.list new
 AfterCondemn h _ new = ⊥
 
--- the roots after an action of the block: it puts the block, or what a Strong word of it holds, into a root
-abbrev pub after_action : FinMap id_cmp HeapBlock → BlockId → List (Option BlockId) → Action → List (Option BlockId)
-after_action blocks b roots (action.Keep g) = slice_set roots g.0 (Some b)
-after_action blocks b roots (action.Pass g at) = slice_set roots g.0 (referent (option_map_or (λ (k : HeapBlock). slice_get k.words at) (get blocks b) None))
-
 -- one finaliser less is left to run
 abbrev pub one_left_less : Collector → Collector
 one_left_less gc = record gc { cycle = option_map (λ (g : Collecting). record g { left = g.left - 1 }) gc.cycle }
@@ -119,11 +114,11 @@ AfterFinalise h _ new = ⊥
 abbrev pub HeapEdge : Shared → BlockId → BlockId → Type 0
 HeapEdge h a b = ((k : HeapBlock) × (i : ℕ) × (get h.blocks a ≡ Some k) × (slice_get k.words i ≡ Some (word.Block b))) ⊎ ((key : ℕ) × (get h.assocs (a, key) ≡ Some b))
 
--- the block is old and refers to a young one
-abbrev pub RefersToYoung : Shared → BlockId → Type 0
-RefersToYoung h a = IsTrue (is_old_in h a) × ((b : BlockId) × HeapEdge h a b × IsTrue (is_young_in h b))
+-- the block is old and refers to one that isn't
+abbrev pub RefersToNewer : Shared → BlockId → Type 0
+RefersToNewer h a = IsTrue (is_old_at h.blocks a) × ((b : BlockId) × HeapEdge h a b × IsFalse (is_old_at h.blocks b))
 
--- the heap without these blocks, a Reclaim later, with exactly the old blocks remembered that refer to young ones; for which calls there is room is not told
+-- the heap without these blocks, a Reclaim later, with exactly the old blocks remembered that refer to one that isn't old; for which calls there is room is not told
 pub record Reclaimed (h : Shared) (gone : List BlockId) (new : Shared) : Type 0 where
   pub blocks : (b : BlockId) → get new.blocks b ≡ (if among gone b then None else option_map older (get h.blocks b))
   pub holds : new.holds ≡ retain_keys h.holds (λ b. not (among gone b))
@@ -132,7 +127,7 @@ pub record Reclaimed (h : Shared) (gone : List BlockId) (new : Shared) : Type 0 
   pub others : (new.options ≡ h.options) × (new.roots ≡ h.roots) × (new.counts ≡ h.counts)
   pub room : new.room ≡ []
   pub closed : new.gc.cycle ≡ None
-  pub cards : (a : BlockId) → IsTrue (among new.gc.cards a) ↔ RefersToYoung new a
+  pub cards : (a : BlockId) → IsTrue (among new.gc.cards a) ↔ RefersToNewer new a
 
 -- the heap after a `reclaim` with this reply
 abbrev pub AfterReclaim : Shared → Reply → Shared → Type 0
@@ -143,36 +138,7 @@ AfterReclaim h _ new = ⊥
 abbrev pub one_lent : Collector → Collector
 one_lent gc = record gc { cycle = option_map (λ (g : Collecting). record g { rooms = g.rooms - 1 }) gc.cycle }
 
--- a cycle without its shades
-abbrev pub unshaded : Collecting → Collecting
-unshaded g = record g { shades = empty }
-
--- the shade of a block where these were enlivened: grey in place of white
-abbrev pub enlivened : List BlockId → Collecting → BlockId → Shade
-enlivened live g b = if among live b && is_white (shade_in g b) then shade.Grey else shade_in g b
-
--- these blocks were enlivened, and these may have been remembered
-pub record Livens (old new : Collector) (live carded : List BlockId) : Type 0 where
-  -- of an open cycle all stays but its shades
-  pub cycle : option_map unshaded new.cycle ≡ option_map unshaded old.cycle
-  -- while it marks, those of the start that were white are grey, and the others have the shade that they had
-  pub shades : (f g : Collecting) → old.cycle ≡ Some f → new.cycle ≡ Some g → f.condemned ≡ None → (b : BlockId) → IsTrue (among f.start b) → shade_in g b ≡ enlivened live f b
-  -- who was remembered still is, and nobody else but these
-  pub cards : (b : BlockId) → IsTrue (among old.cards b) → IsTrue (among new.cards b)
-  pub fewer : (b : BlockId) → IsTrue (among new.cards b) → IsTrue (among old.cards b) ⊎ IsTrue (among carded b)
-
 -- the collector after a call with this reply, which enlivens and remembers unless it is a misuse
 abbrev pub AfterBarrier : Collector → Collector → Reply → List BlockId → List BlockId → Type 0
 AfterBarrier old new (reply.Misuse m) live carded = new ≡ old
 AfterBarrier old new _ live carded = Livens old new live carded
-
--- the block, if there is one
-abbrev pub of_option : Option BlockId → List BlockId
-of_option None = []
-of_option (Some b) = b ∷ []
-
--- the blocks to which the words refer
-abbrev pub blocks_in : List Word → List BlockId
-blocks_in [] = []
-blocks_in (word.Block b ∷ words) = b ∷ blocks_in words
-blocks_in (w ∷ words) = blocks_in words

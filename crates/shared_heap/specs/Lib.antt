@@ -1,5 +1,4 @@
 pub mod Ready
-pub mod Collector
 pub mod Shared
 pub mod Codes
 pub mod Inside

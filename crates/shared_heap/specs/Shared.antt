@@ -1,5 +1,5 @@
 -- What a heap holds
-use Rattle.std.specs.Prelude.{◌≡◌, ℕ, ◌+◌, ◌==◌, ◌&&◌, nat_lt, List, [], Option, Some, None, Bool, false, not, if◌then◌else◌, slice_set, drop, replicate, get_or, is_some}
+use Rattle.std.specs.Prelude.{◌≡◌, ℕ, ◌+◌, ◌==◌, List, [], Option, Some, None, Bool, false, not, if◌then◌else◌, slice_set, drop, replicate, get_or, is_some}
 use Rattle.std.specs.Option.{option_map_or, option_and_then}
 use Rattle.std.specs.FinMap.{FinMap, get, insert, empty, len}
 use Rattle.az_base.specs.declared.action.Action.{Action}
@@ -12,8 +12,8 @@ use Rattle.block_layouts.specs.declared.layout.Layout.{Layout}
 use Rattle.block_layouts.specs.Layouts.{first_words}
 use Rattle.zone_model.specs.declared.entry.Stats.{Stats}
 use Rattle.zone_model.specs.Maps.{total}
-use Rattle.zone_model.specs.State.{is_nil, with_edit}
-use Rattle.shared_heap.specs.Collector.{Collector, no_collector}
+use Rattle.zone_model.specs.State.{with_edit}
+use Rattle.heap_cycle.specs.Collector.{Collector, no_collector}
 use Rattle.block_table.specs.Holds.{Holds, times, with_times}
 use Rattle.shared_heap.specs.Ready.{Ready, unready, with_room}
 use Rattle.block_table.specs.Stored.{HeapBlock, newly}
@@ -104,18 +104,6 @@ admitted h id layout words = record h {
 abbrev pub with_gc : Shared → Collector → Shared
 with_gc h g = record h { gc = g }
 
--- the block has actions and isn't finalised
-abbrev pub waits : HeapBlock → Bool
-waits k = not (is_nil k.actions) && not k.finalised
-
--- a block of the heap has actions and isn't finalised
-abbrev pub awaits_in : FinMap id_cmp HeapBlock → BlockId → Bool
-awaits_in blocks id = option_map_or waits (get blocks id) false
-
--- how many blocks have actions and aren't finalised
-abbrev pub unfinalised_by : FinMap id_cmp HeapBlock → ℕ
-unfinalised_by blocks = total (λ id k. if waits k then 1 else 0) blocks
-
 -- the condemned blocks of the open cycle, if there are any
 abbrev pub condemned_in : Shared → Option (List BlockId)
 condemned_in h = option_and_then (λ g. g.condemned) h.gc.cycle
@@ -131,11 +119,3 @@ finalisers_left h = option_map_or (λ g. if is_some g.condemned then g.left else
 -- another thread's cycle is open
 abbrev pub is_busy : Shared → ℕ → Bool
 is_busy h t = option_map_or (λ g. not (g.owner == t)) h.gc.cycle false
-
--- the block is old: it has seen three Reclaims
-abbrev pub is_old_in : Shared → BlockId → Bool
-is_old_in h b = option_map_or (λ k. k.age == 3) (get h.blocks b) false
-
--- the block is young
-abbrev pub is_young_in : Shared → BlockId → Bool
-is_young_in h b = option_map_or (λ k. nat_lt k.age 3) (get h.blocks b) false

@@ -7,7 +7,7 @@ use Rattle.quantum_space.specs.declared.shade.Shade.TheVariants as shade
 use Rattle.zone_model.specs.State.{State, Cycle, is_escaped}
 use Rattle.zone_model.specs.Collection.{WasAnchored}
 use Rattle.zone_model.specs.Reach.{Edge}
-use Rattle.shared_heap.specs.Collector.{Collecting, shade_in}
+use Rattle.heap_cycle.specs.Collector.{Collecting, shade_in}
 use Rattle.heap_tables.specs.Standing.{escaped_view}
 use Rattle.shared_heap.specs.Shared.{Shared, root_in}
 

@@ -1,4 +1,4 @@
-//! The heap: its tables, the weak locations, and the options.
+//! The heap: its tables, the weak locations, the options, and the open cycle.
 ghost use Rattle.std.specs.Prelude.{◌≡◌, ◌≤◌, ℕ, IfOk};
 ghost use Rattle.std.specs.FinMap.{contains_key};
 ghost use Rattle.az_base.specs.declared.block_id.BlockId.{BlockId};
@@ -18,10 +18,12 @@ mod counts;
 mod cycles;
 mod ready;
 mod roots;
+mod telling;
 mod weak;
 mod words;
 
 use az_base::{BlockId, NoMemory, Options};
+use heap_cycle::OpenCycle;
 use heap_tables::Tables;
 use std::alloc::Global;
 use std::marker::Model;
@@ -37,12 +39,14 @@ pub struct Heap {
     weak: Weak,
     /// How many of the blocks have actions and aren't finalised.
     unfinalised: u32,
+    /// The open cycle, if there is one.
+    open_cycle: Option<OpenCycle>,
 }
 
 impl Model for Heap {
     ghost use Rattle.shared_heap.specs.Shared.{Shared};
     ghost use Rattle.shared_heap.specs.Codes.{coded_shared};
-    ghost use Rattle.shared_heap.specs.Collector.{no_collector};
+    ghost use Rattle.heap_cycle.specs.Collects.{collector_of};
 
     ghost Value = { Shared };
 
@@ -50,7 +54,7 @@ impl Model for Heap {
 
     ghost use Rattle.shared_heap.specs.Inside.{IsHeap};
 
-    ghost view = { λ h. record { options = h.options; blocks = h.tables.blocks.blocks; holds = h.tables.blocks.holds; roots = h.tables.roots; counts = h.tables.counts.counts; assocs = h.tables.assocs.pairs; weak = h.weak.shown; ready = record { counts = h.tables.counts.spare; object = h.tables.assocs.ready; value = h.weak.ready }; room = h.tables.blocks.room; gc = no_collector } };
+    ghost view = { λ h. record { options = h.options; blocks = h.tables.blocks.blocks; holds = h.tables.blocks.holds; roots = h.tables.roots; counts = h.tables.counts.counts; assocs = h.tables.assocs.pairs; weak = h.weak.shown; ready = record { counts = h.tables.counts.spare; object = h.tables.assocs.ready; value = h.weak.ready }; room = h.tables.blocks.room; gc = collector_of h.tables h.open_cycle } };
 
     ghost invariant = { IsHeap };
 }
@@ -67,6 +71,7 @@ impl Heap {
             tables,
             weak: Weak::new(alloc),
             unfinalised: 0,
+            open_cycle: None,
         })
     }
 

@@ -20,7 +20,7 @@ ghost use Rattle.zone_model.specs.SameShared.{SameShared};
 ghost use Rattle.zone_model.specs.Sound.{Sound};
 ghost use Rattle.zone_model.specs.State.{State};
 ghost use Rattle.zone_model.specs.Step.{Step};
-ghost use Rattle.shared_heap.specs.Collector.{Collecting};
+ghost use Rattle.heap_cycle.specs.Collector.{Collecting};
 ghost use Rattle.shared_heap.specs.Cycles.{IsOpenOf, IsMarking, IsSettling};
 ghost use Rattle.shared_heap.specs.Holding.{holds_of, pair_of, pairs_in, replaced, HoldsAgree, HoldsAgreeBut, HoldsMore, HoldsBorn, HoldsSet, HoldsAdmitted, HoldsItsOwn, HoldsOnceMore, HoldsAsBefore, LeavesParts, ReadsTo};
 ghost use Rattle.shared_heap.specs.Shared.{Shared};

@@ -12,6 +12,7 @@ use Rattle.zone_model.specs.declared.entry.Stats.{Stats}
 use Rattle.zone_model.specs.History.{Legal, Run}
 use Rattle.zone_model.specs.State.{State, Block, opening, is_escaped}
 use Rattle.zone_model.specs.Stats.{stats_of}
+use Rattle.zone_model.proofs.Ranges.{opening_ranges}
 use Rattle.zone_model.proofs.Soundness.{opening_sound}
 use Rattle.zone_model.proofs.Steps.{plain_happens}
 use Rattle.shared_heap.specs.Shared.{Shared, new_heap}
@@ -25,6 +26,7 @@ pub new_core : (o : Options) (h : Shared) (j : Recorded) → h ≡ new_heap o �
 new_core o h j new stands none owed = record {
   ends = subst (λ (es : List Entry). Run (opening h.options) es (opening o)) (sym none) (ap opening (sym (ap (λ (s : Shared). s.options) new)));
   heap = record { stands = stands; holds = λ t q out. absurd (nothing q out); sound = opening_sound o };
+  range = opening_ranges o;
   room = ap (λ (s : Shared). s.room) new;
   owed = owed ∙ sym (ap steps_left new);
   lists = subst HasLists (sym new) tt;

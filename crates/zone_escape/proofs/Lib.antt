@@ -19,4 +19,11 @@ pub mod Counted
 pub mod Room
 pub mod Phases
 pub mod Phased
-pub mod Cycles
+pub mod OpenCycles
+pub mod StatesInRange
+pub mod Lengths
+pub mod Lent
+pub mod Advancing
+pub mod Closing
+pub mod Beginning
+pub mod Marked

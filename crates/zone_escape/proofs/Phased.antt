@@ -4,7 +4,7 @@ use Rattle.std.proofs.lemmas.Bool.{ltb-true, lt-ltb}
 use Rattle.az_base.specs.declared.block_id.BlockId.{BlockId}
 use Rattle.zone_model.specs.declared.call.Call.{Call}
 use Rattle.zone_model.specs.declared.call.Call.TheVariants as call
-use Rattle.zone_model.specs.Collection.{HasCycle, HasCondemned, awaits}
+use Rattle.zone_model.specs.Collection.{HasCondemned, awaits}
 use Rattle.zone_model.specs.Phases.{Free, Marking, May, left_in, left_among}
 use Rattle.zone_model.specs.State.{State, Cycle}
 use Rattle.zone_model.proofs.Replied.{one_condemned}
@@ -73,7 +73,7 @@ finds f (x ∷ xs) more = by (f x) (λ m. finds f xs m) more
     by true rest m = (x, refl)
     by false rest m = rest m
 
-found : (f : BlockId → Bool) (xs : List BlockId) (b : BlockId) → find f xs ≡ Some b → 0 < length (filter f xs)
+pub found : (f : BlockId → Bool) (xs : List BlockId) (b : BlockId) → find f xs ≡ Some b → 0 < length (filter f xs)
 found f [] b h = absurd (none_some b h)
 found f (x ∷ xs) b h = by (f x) (λ k. found f xs b k) h
   where
@@ -88,7 +88,7 @@ finds_none f xs none = by (find f xs) refl
     by None e = e
     by (Some b) e = let some = found f xs b e in absurd (omega (arith, some, none))
 
-found_none : (f : BlockId → Bool) (xs : List BlockId) → find f xs ≡ None → length (filter f xs) ≡ 0
+pub found_none : (f : BlockId → Bool) (xs : List BlockId) → find f xs ≡ None → length (filter f xs) ≡ 0
 found_none f xs h = by (length (filter f xs)) refl
   where
     by : (n : ℕ) → length (filter f xs) ≡ n → length (filter f xs) ≡ 0

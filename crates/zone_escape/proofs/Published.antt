@@ -1,5 +1,5 @@
 -- A core after what waits was published
-use Rattle.std.proofs.Common.{◌≡◌, ℕ, ◌==◌, ◌&&◌, ◌||◌, zero, suc, Bool, true, false, cond, not, List, [], ◌++◌, Option, Some, None, IsTrue, is_some, refl, sym, ap, subst, ◌∙◌, arith}
+use Rattle.std.proofs.Common.{◌≡◌, ℕ, ◌==◌, ◌&&◌, ◌||◌, zero, suc, Bool, true, false, cond, not, List, [], ◌++◌, Option, Some, None, IsTrue, is_some, length, refl, sym, ap, subst, ◌∙◌, arith}
 use Rattle.std.proofs.lemmas.Bool.Decides.{nat_tests}
 use Rattle.std.specs.FinMap.{get}
 use Rattle.az_base.specs.declared.block_id.BlockId.{BlockId}
@@ -28,6 +28,7 @@ use Rattle.zone_escape.specs.Cores.{CoreShown, IsCore, IsCoreOf, BelongsTo, step
 use Rattle.zone_escape.specs.Publications.{Flushed}
 use Rattle.zone_escape.specs.Telling.{below, moved_of, moved_at, is_noted}
 use Rattle.zone_escape.proofs.Held.{escaped_alike}
+use Rattle.zone_escape.proofs.StatesInRange.{waiting_ranges}
 
 -- a core has one state
 pub core_once : (k : CoreShown) (z a : State) → IsCoreOf k z → IsCoreOf k a → z ≡ a
@@ -100,8 +101,8 @@ pub record AfterWaiting (l m : LocalSet) (k n : CoreShown) (z : State) : Type 0 
   pub part : part_of after l.thread ≡ part_in l
   pub others : OthersStay l.thread z after
 
-pub published : (l m : LocalSet) (k n : CoreShown) (z : State) → IsCoreOf k z → Belongs l z → n.journal.entries ≡ k.journal.entries ++ l.waiting → n.journal.owed ≡ k.journal.owed → Told l k.heap n.heap (is_noted l) → AfterWaiting l m k n z
-published l m k n z is b entries owed told =
+pub published : (l m : LocalSet) (k n : CoreShown) (z : State) → length l.registers ≡ 16 → IsCoreOf k z → Belongs l z → n.journal.entries ≡ k.journal.entries ++ l.waiting → n.journal.owed ≡ k.journal.owed → Told l k.heap n.heap (is_noted l) → AfterWaiting l m k n z
+published l m k n z sixteen is b entries owed told =
     let run = waiting_run z is.heap.sound l.thread l.waiting (part_in l) b.run in
     let a = run.0 in
     let options : n.heap.options ≡ k.heap.options = ap (λ (s : Shared). s.options) told.rest in
@@ -115,6 +116,7 @@ published l m k n z is b entries owed told =
           holds = told_agrees l k.heap n.heap z a b is.heap told run.2 run.3 run.4;
           sound = ends_sound n.heap.options n.journal.entries a ends;
         };
+        range = waiting_ranges l z a is.range sixteen (ends_sound n.heap.options n.journal.entries a ends) run.2 run.3 run.4;
         room = ap (λ (s : Shared). s.room) told.rest ∙ is.room;
         owed = owed ∙ is.owed ∙ sym (ap steps_left told.rest);
         lists = subst HasLists (sym told.rest) is.lists;
@@ -124,9 +126,9 @@ published l m k n z is b entries owed told =
     }
 
 -- what a publication makes of the set and the core
-pub flushed : (l : LocalSet) (s : ℕ) (k n : CoreShown) → IsCore k → BelongsTo l k → n.journal.entries ≡ k.journal.entries ++ l.waiting → n.journal.owed ≡ k.journal.owed → Told l k.heap n.heap (is_noted l)
+pub flushed : (l : LocalSet) (s : ℕ) (k n : CoreShown) → length l.registers ≡ 16 → IsCore k → BelongsTo l k → n.journal.entries ≡ k.journal.entries ++ l.waiting → n.journal.owed ≡ k.journal.owed → Told l k.heap n.heap (is_noted l)
     → IsCore n × Flushed l (record l { published = l.registers; changed = []; waiting = []; spare = s }) k n
-flushed l s k n is belongs entries owed told = (
+flushed l s k n sixteen is belongs entries owed told = (
   (p.after, p.core),
   record {
     published = record {
@@ -145,7 +147,7 @@ flushed l s k n is belongs entries owed told = (
     m = record l { published = l.registers; changed = []; waiting = []; spare = s }
 
     p : AfterWaiting l m k n is.0
-    p = published l m k n is.0 is.1 (belongs is.0 is.1) entries owed told
+    p = published l m k n is.0 sixteen is.1 (belongs is.0 is.1) entries owed told
 
     now : Belongs m p.after
     now = record {

@@ -15,10 +15,10 @@ with_journal k j = record { heap = k.heap; journal = j }
 
 -- it is that of the same state
 pub core_still : (k : CoreShown) (j : Recorded) → j.entries ≡ k.journal.entries → j.owed ≡ k.journal.owed → (z : State) → IsCoreOf k z → IsCoreOf (with_journal k j) z
-core_still k j same owed z is = record { ends = subst (λ (es : List Entry). Ends k.heap.options es z) (sym same) is.ends; heap = is.heap; room = is.room; owed = owed ∙ is.owed; lists = is.lists }
+core_still k j same owed z is = record { ends = subst (λ (es : List Entry). Ends k.heap.options es z) (sym same) is.ends; heap = is.heap; range = is.range; room = is.room; owed = owed ∙ is.owed; lists = is.lists }
 
 core_back : (k : CoreShown) (j : Recorded) → j.entries ≡ k.journal.entries → j.owed ≡ k.journal.owed → (z : State) → IsCoreOf (with_journal k j) z → IsCoreOf k z
-core_back k j same owed z is = record { ends = subst (λ (es : List Entry). Ends k.heap.options es z) same is.ends; heap = is.heap; room = is.room; owed = sym owed ∙ is.owed; lists = is.lists }
+core_back k j same owed z is = record { ends = subst (λ (es : List Entry). Ends k.heap.options es z) same is.ends; heap = is.heap; range = is.range; room = is.room; owed = sym owed ∙ is.owed; lists = is.lists }
 
 -- where nothing waits, all that waits was published
 pub nothing_flushed : (l : LocalSet) (k : CoreShown) (j : Recorded) → j.entries ≡ k.journal.entries → j.owed ≡ k.journal.owed → l.waiting ≡ [] → BelongsTo l k → Flushed l l k (with_journal k j)

@@ -1,5 +1,6 @@
 -- A core after a thread's step
 use Rattle.std.proofs.Common.{◌≡◌, ℕ, ◌==◌, true, false, List, [], ◌∷◌, ◌++◌, MatchOption, Option, Some, None, Result, Ok, Err, OnErr, refl, sym, ap, subst, ◌∙◌, append_assoc, true≢false}
+use Rattle.az_base.specs.declared.action.Mode.{Mode}
 use Rattle.az_base.specs.declared.misuse.Misuse.{Misuse}
 use Rattle.az_base.specs.declared.options.Options.{Options}
 use Rattle.zone_model.specs.declared.call.Call.{Call}
@@ -11,29 +12,33 @@ use Rattle.zone_model.specs.Bare.{bare_reply, bare_entry}
 use Rattle.zone_model.specs.Effect.{Effect}
 use Rattle.zone_model.specs.Escape.{with_escaped}
 use Rattle.zone_model.specs.History.{Run, Ends, is_cycle_step}
+use Rattle.zone_model.specs.InRange.{CallInRange}
 use Rattle.zone_model.specs.Misuses.{misuse_of}
 use Rattle.zone_model.specs.Phases.{Free, May}
 use Rattle.zone_model.specs.Part.{Part, part_of, part_after, leave_part, is_local, PartStep}
 use Rattle.zone_model.specs.State.{State, opening}
 use Rattle.zone_model.specs.Step.{Step, Happens}
+use Rattle.zone_model.proofs.Ranges.{step_ranges}
 use Rattle.zone_model.proofs.Runs.{run_more}
 use Rattle.zone_model.proofs.SoundLaws.{own_part, others_parts}
-use Rattle.shared_heap.specs.Collector.{Collecting}
+use Rattle.heap_cycle.specs.Collector.{Collecting}
 use Rattle.shared_heap.specs.Cycles.{IsOpenOf}
 use Rattle.shared_heap.specs.Shared.{Shared}
 use Rattle.shared_heap.proofs.Collecting.{none_of}
 use Rattle.zone_history.specs.Journals.{Recorded}
 use Rattle.local_set.specs.Calls.{entry_of}
 use Rattle.local_set.specs.LocalSets.{LocalSet, part_in}
+use Rattle.escape_plan.specs.Escapes.{KeepsCycle}
 use Rattle.escape_plan.specs.Together.{Belongs, Together}
 use Rattle.escape_plan.proofs.Belonging.{part_is}
 use Rattle.zone_escape.specs.Answers.{IsPlain}
-use Rattle.zone_escape.specs.Cores.{CoreShown, IsCore, IsCoreOf, BelongsTo, HasLists, steps_left, steps_of, lists_of}
-use Rattle.zone_escape.specs.Making.{CanMake, KeepsCycle, Makes, Stays}
+use Rattle.zone_escape.specs.Cores.{CoreShown, IsCore, IsCoreOf, BelongsTo, HasLists, steps_left}
+use Rattle.zone_escape.specs.Cycles.{Advances}
+use Rattle.zone_escape.specs.Making.{CanMake, Makes, Stays}
 use Rattle.zone_escape.specs.Publications.{Flushed, Stepped, is_leave}
 use Rattle.zone_escape.proofs.Published.{core_once}
 use Rattle.zone_escape.proofs.Phases.{may_still, flushed_stays}
-use Rattle.zone_escape.proofs.Cycles.{keeps_steps, keeps_lists}
+use Rattle.zone_escape.proofs.OpenCycles.{keeps_steps, keeps_lists}
 
 pub not_leave : (c : Call) → (c ≡ call.Leave → ⊥) → is_leave c ≡ false
 not_leave call.Leave h = absurd (h refl)
@@ -119,6 +124,14 @@ leave_free z t _ leave may = absurd (true≢false (sym leave))
 none_of_free : (k : CoreShown) (t : ℕ) (is : IsCore k) → Free is.0 t → (g : Collecting) → IsOpenOf k.heap t g → ⊥
 none_of_free k t is free g = none_of k.heap is.0 t g is.1.heap.stands free
 
+-- what the thread might do it may still do once what waits was published
+pub may_now : (old l : LocalSet) (k0 k : CoreShown) (c : Call) → IsCore k0 → (is : IsCore k) → BelongsTo old k0 → Flushed old l k0 k → ((z : State) → IsCoreOf k0 z → May z old.thread c) → May is.0 l.thread c
+may_now old l k0 k c was is belongs flushed may = subst (λ t. May is.0 t c) (sym flushed.published.thread) (may_still k0 k old.thread c was (flushed_stays old l k0 k was belongs flushed) may is.0 is.1)
+
+-- so a thread that might begin a cycle has none open
+pub own_free : (old l : LocalSet) (k0 k : CoreShown) (mode : Mode) (u : ℕ) → u ≡ l.thread → IsCore k0 → (is : IsCore k) → BelongsTo old k0 → Flushed old l k0 k → ((z : State) → IsCoreOf k0 z → May z old.thread (call.Begin mode)) → (g : Collecting) → IsOpenOf k.heap u g → ⊥
+own_free old l k0 k mode u thread was is belongs flushed may g owned = none_of_free k l.thread is (may_now old l k0 k (call.Begin mode) was is belongs flushed may) g (owned.0, owned.1 ∙ thread)
+
 -- a call may be made once what waits was published
 pub can_make : (old l : LocalSet) (k0 k : CoreShown) (c : Call) → IsCore k0 → IsCore k → BelongsTo old k0 → Flushed old l k0 k → old.ended ≡ false → is_local (part_in old) c ≡ false → ((z : State) → IsCoreOf k0 z → May z old.thread c) → CanMake l k.heap c
 can_make old l k0 k c was is belongs flushed running shared may = record {
@@ -126,7 +139,7 @@ can_make old l k0 k c was is belongs flushed running shared may = record {
   out = flushed.published.out;
   running = ap (λ (p : Part). p.ended) flushed.part ∙ running;
   shared = ap (λ p. is_local p c) flushed.part ∙ shared;
-  free = λ leave. none_of_free k l.thread is (subst (λ t. Free is.0 t) (sym flushed.published.thread) (leave_free is.0 old.thread c leave (may_still k0 k old.thread c was (flushed_stays old l k0 k was belongs flushed) may is.0 is.1)));
+  free = λ leave. none_of_free k l.thread is (leave_free is.0 l.thread c leave (may_now old l k0 k c was is belongs flushed may));
 }
 
 module _ (old l m : LocalSet) (k0 k : CoreShown) (heap : Shared) (is : IsCore k) (flushed : Flushed old l k0 k) where
@@ -134,7 +147,7 @@ module _ (old l m : LocalSet) (k0 k : CoreShown) (heap : Shared) (is : IsCore k)
   refused_core : KeepsCycle k.heap heap → Stays l m k.heap heap → IsCoreOf (record { heap = heap; journal = k.journal }) is.0
   refused_core cycle still =
       let t = still.together is.0 (core_together l k is.0 (flushed.published.belongs is.0 is.1) is.1) in
-      record { ends = subst (λ (o : Options). Ends o k.journal.entries is.0) (sym still.options) is.1.ends; heap = t.heap; room = t.room; owed = is.1.owed ∙ sym (keeps_steps k.heap heap cycle); lists = keeps_lists k.heap heap cycle is.1.lists }
+      record { ends = subst (λ (o : Options). Ends o k.journal.entries is.0) (sym still.options) is.1.ends; heap = t.heap; range = is.1.range; room = t.room; owed = is.1.owed ∙ sym (keeps_steps k.heap heap cycle); lists = keeps_lists k.heap heap cycle is.1.lists }
 
   pub refused : KeepsCycle k.heap heap → Stays l m k.heap heap → IsCore (record { heap = heap; journal = k.journal }) × Flushed old m k0 (record { heap = heap; journal = k.journal })
   refused cycle still =
@@ -157,17 +170,17 @@ module _ (old l m : LocalSet) (k0 k : CoreShown) (heap : Shared) (is : IsCore k)
         },
       )
 
-  -- where it was made, and its entry went into the journal
-  pub stepped : (c : Call) (r : Reply) (journal : Recorded) → steps_left heap ≡ journal.owed → HasLists heap → Makes l m k.heap heap c r → journal.entries ≡ k.journal.entries ++ entry_of l.thread c r ∷ [] → m.ended ≡ is_leave c
-      → IsCore (record { heap = heap; journal = journal }) × Stepped old m k0 (record { heap = heap; journal = journal }) c r
-  stepped c r journal owed lists made entries ended =
+  -- where it was made in the core's state, and its entry went into the journal
+  pub stepped_at : (c : Call) (r : Reply) (journal : Recorded) → CallInRange c → steps_left heap ≡ journal.owed → HasLists heap → m.thread ≡ l.thread → m.waiting ≡ [] → heap.options ≡ k.heap.options → (a : State) × Step is.0 (entry_of l.thread c r) a × Together m heap a
+      → journal.entries ≡ k.journal.entries ++ entry_of l.thread c r ∷ [] → m.ended ≡ is_leave c → IsCore (record { heap = heap; journal = journal }) × Stepped old m k0 (record { heap = heap; journal = journal }) c r
+  stepped_at c r journal range owed lists thread waiting options step entries ended =
       let n : CoreShown = record { heap = heap; journal = journal } in
       let z = is.0 in
-      let step = made.step z (core_together l k z (flushed.published.belongs z is.1) is.1) in
       let a = step.0 in
       let core : IsCoreOf n a = record {
-        ends = subst (λ (o : Options). Ends o journal.entries a) (sym made.options) (subst (λ (es : List Entry). Run (opening k.heap.options) es a) (sym entries) (run_more (opening k.heap.options) k.journal.entries z _ a is.1.ends step.1));
+        ends = subst (λ (o : Options). Ends o journal.entries a) (sym options) (subst (λ (es : List Entry). Run (opening k.heap.options) es a) (sym entries) (run_more (opening k.heap.options) k.journal.entries z _ a is.1.ends step.1));
         heap = step.2.heap;
+        range = step_ranges z _ a is.1.range range step.1;
         room = step.2.room;
         owed = sym owed;
         lists = lists;
@@ -177,9 +190,9 @@ module _ (old l m : LocalSet) (k0 k : CoreShown) (heap : Shared) (is : IsCore k)
           published = record {
             journal = entries ∙ ap (λ es. es ++ entry_of l.thread c r ∷ []) flushed.published.journal ∙ append_assoc k0.journal.entries old.waiting (entry_of l.thread c r ∷ [])
                 ∙ ap (λ t. k0.journal.entries ++ (old.waiting ++ entry_of t c r ∷ [])) flushed.published.thread;
-            options = made.options ∙ flushed.published.options;
-            thread = made.thread ∙ flushed.published.thread;
-            out = made.waiting;
+            options = options ∙ flushed.published.options;
+            thread = thread ∙ flushed.published.thread;
+            out = waiting;
             belongs = λ y d. subst (Belongs m) (core_once n a y core d) step.2.local;
             others = λ y b d e u other.
                 ap (λ x. part_of x u) (core_once n b a e core) ∙ others_parts z is.1.heap.sound _ a step.1 u (ap (λ t. t == u) flushed.published.thread ∙ other)
@@ -188,6 +201,19 @@ module _ (old l m : LocalSet) (k0 k : CoreShown) (heap : Shared) (is : IsCore k)
           ended = ended;
         },
       )
+
+  -- so it is where it was made in each state
+  pub stepped : (c : Call) (r : Reply) (journal : Recorded) → CallInRange c → steps_left heap ≡ journal.owed → HasLists heap → Makes l m k.heap heap c r → journal.entries ≡ k.journal.entries ++ entry_of l.thread c r ∷ [] → m.ended ≡ is_leave c
+      → IsCore (record { heap = heap; journal = journal }) × Stepped old m k0 (record { heap = heap; journal = journal }) c r
+  stepped c r journal range owed lists made = stepped_at c r journal range owed lists made.thread made.waiting made.options (made.step is.0 (core_together l k is.0 (flushed.published.belongs is.0 is.1) is.1))
+
+  -- and where it is a step of a cycle that leaves the set
+  pub advanced_at : (c : Call) (r : Reply) (journal : Recorded) → m ≡ l → CallInRange c → steps_left heap ≡ journal.owed → HasLists heap → Advances l k.heap heap c r → journal.entries ≡ k.journal.entries ++ entry_of l.thread c r ∷ [] → l.ended ≡ is_leave c
+      → IsCore (record { heap = heap; journal = journal }) × Stepped old m k0 (record { heap = heap; journal = journal }) c r
+  advanced_at c r journal same range owed lists made entries ended =
+      stepped_at c r journal range owed lists (ap (λ (s : LocalSet). s.thread) same) (ap (λ (s : LocalSet). s.waiting) same ∙ flushed.published.out) made.options
+      (subst (λ (s : LocalSet). (a : State) × Step is.0 (entry_of l.thread c r) a × Together s heap a) (sym same) (made.step is.0 (core_together l k is.0 (flushed.published.belongs is.0 is.1) is.1) is.1.range))
+      entries (ap (λ (s : LocalSet). s.ended) same ∙ ended)
 
 -- what is left where memory was wanting
 pub on_err : {T E : Type 0} (r : Result T E) {A : Type 0} → A → OnErr r A

@@ -2,10 +2,11 @@
 use Rattle.std.specs.Prelude.{◌≡◌, ◌==◌, ◌+◌, ℕ, false, [], IfSome, is_some, if◌then◌else◌}
 use Rattle.std.specs.Option.{option_map_or}
 use Rattle.zone_model.specs.History.{Ends}
+use Rattle.zone_model.specs.InRange.{InRange}
 use Rattle.zone_model.specs.Part.{opening_part}
 use Rattle.zone_model.specs.State.{State}
 use Rattle.az_base.specs.declared.options.Options.{Options}
-use Rattle.shared_heap.specs.Collector.{Collecting}
+use Rattle.heap_cycle.specs.Collector.{Collecting}
 use Rattle.shared_heap.specs.Shared.{Shared}
 use Rattle.zone_history.specs.Journals.{Recorded}
 use Rattle.local_set.specs.LocalSets.{LocalSet, part_in}
@@ -32,10 +33,11 @@ lists_of g = if is_some g.condemned then 2 else 3
 abbrev pub HasLists : Shared → Type 0
 HasLists h = IfSome h.gc.cycle (λ g. g.rooms ≡ lists_of g)
 
--- the journal ends in the state, and the heap is that of the state; no room is left over from an escape, and the open cycle has the room that its entries need
+-- the journal ends in the state, which is in range, and the heap is that of the state; no room is left over from an escape, and the open cycle has the room that its entries need
 pub record IsCoreOf (k : CoreShown) (z : State) : Type 0 where
   pub ends : Ends k.heap.options k.journal.entries z
   pub heap : IsHeapOf k.heap z
+  pub range : InRange z
   pub room : k.heap.room ≡ []
   pub owed : k.journal.owed ≡ steps_left k.heap
   pub lists : HasLists k.heap

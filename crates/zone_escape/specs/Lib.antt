@@ -1,5 +1,6 @@
 pub mod Cores
 pub mod Phases
+pub mod Cycles
 pub mod Publications
 pub mod Making
 pub mod Receiving

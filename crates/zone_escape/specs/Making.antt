@@ -1,21 +1,17 @@
 -- A call of a thread of which nothing waits, made on its own set and the heap
-use Rattle.std.specs.Prelude.{◌≡◌, true, false, [], option_map}
+use Rattle.std.specs.Prelude.{◌≡◌, true, false, []}
 use Rattle.zone_model.specs.declared.call.Call.{Call}
 use Rattle.zone_model.specs.declared.entry.Reply.{Reply}
 use Rattle.zone_model.specs.Part.{is_local}
 use Rattle.zone_model.specs.State.{State}
 use Rattle.zone_model.specs.Step.{Step}
-use Rattle.shared_heap.specs.Collector.{Collecting}
-use Rattle.shared_heap.specs.Cycles.{IsOpenOf, unshaded}
+use Rattle.heap_cycle.specs.Collector.{Collecting}
+use Rattle.shared_heap.specs.Cycles.{IsOpenOf}
 use Rattle.shared_heap.specs.Shared.{Shared}
 use Rattle.local_set.specs.Calls.{entry_of}
 use Rattle.local_set.specs.LocalSets.{LocalSet, part_in}
 use Rattle.escape_plan.specs.Together.{AreTogether, Together}
 use Rattle.zone_escape.specs.Publications.{is_leave}
-
--- of the open cycle nothing but the shades has changed
-abbrev pub KeepsCycle : Shared → Shared → Type 0
-KeepsCycle h k = option_map unshaded k.gc.cycle ≡ option_map unshaded h.gc.cycle
 
 -- the thread may make the call now: it belongs together with the heap, nothing of it waits, it hasn't ended, the call isn't local, and where it leaves, no cycle of it is open
 pub record CanMake (l : LocalSet) (h : Shared) (c : Call) : Type 0 where

@@ -1,6 +1,7 @@
 //! The calls on associations.
 ghost use Rattle.std.specs.Prelude.{◌≡◌, IfOk, OnErr};
 ghost use Rattle.zone_model.specs.declared.call.Call.TheVariants as call;
+ghost use Rattle.escape_plan.specs.Escapes.{KeepsCycle};
 ghost use Rattle.zone_escape.specs.Making.{CanMake, Makes, Stays};
 
 use crate::receiving::receive;
@@ -25,6 +26,7 @@ pub fn set_assoc(
     requires { CanMake local.old heap.old (call.SetAssoc object key value) }
     ensures ok { IfOk result (λ reply. Makes local.old local.new heap.old heap.new (call.SetAssoc object key value) reply) }
     ensures err { OnErr result (Stays local.old local.new heap.old heap.new) }
+    ensures cycle { KeepsCycle heap.old heap.new }
 {
     let Some(id) = local.register(object) else {
         return Ok(Reply::Misuse(Misuse::NullBlock));
@@ -52,6 +54,7 @@ pub fn get_assoc(
     requires { CanMake local.old heap.old (call.GetAssoc to object key) }
     ensures ok { IfOk result (λ reply. Makes local.old local.new heap.old heap.new (call.GetAssoc to object key) reply) }
     ensures err { OnErr result (Stays local.old local.new heap.old heap.new) }
+    ensures cycle { KeepsCycle heap.old heap.new }
 {
     let id = local.register(object);
     let reply = heap.get_assoc(local.thread(), id, key)?;

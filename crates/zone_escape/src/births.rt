@@ -1,6 +1,7 @@
 //! New blocks that aren't their thread's own: one with a finaliser, or one too many for the option local.
 ghost use Rattle.std.specs.Prelude.{◌≡◌, IfOk, OnErr};
 ghost use Rattle.zone_model.specs.declared.call.Call.TheVariants as call;
+ghost use Rattle.escape_plan.specs.Escapes.{KeepsCycle};
 ghost use Rattle.zone_escape.specs.Making.{CanMake, Makes, Stays};
 
 use crate::receiving::receive;
@@ -25,6 +26,7 @@ pub fn make_block(
     requires { CanMake local.old heap.old (call.New to layout.now actions.now) }
     ensures ok { IfOk result (λ reply. Makes local.old local.new heap.old heap.new (call.New to layout.now actions.now) reply) }
     ensures err { OnErr result (Stays local.old local.new heap.old heap.new) }
+    ensures cycle { KeepsCycle heap.old heap.new }
 {
     let id = &local.next_id();
     let reply = heap.new_shared(alloc, local.thread(), *id, layout, actions)?;

@@ -4,6 +4,7 @@ ghost use Rattle.std.specs.Option.{option_map_or};
 ghost use Rattle.zone_model.specs.declared.call.Call.TheVariants as call;
 ghost use Rattle.zone_model.specs.Part.{is_in};
 ghost use Rattle.local_set.specs.LocalSets.{part_in};
+ghost use Rattle.escape_plan.specs.Escapes.{KeepsCycle};
 ghost use Rattle.zone_escape.specs.Making.{CanMake, Makes, Stays};
 
 use crate::exposing::is_own;
@@ -27,6 +28,7 @@ pub fn retain(
     requires { CanMake local.old heap.old (call.Retain reg) }
     ensures ok { IfOk result (λ reply. Makes local.old local.new heap.old heap.new (call.Retain reg) reply) }
     ensures err { OnErr result (Stays local.old local.new heap.old heap.new) }
+    ensures cycle { KeepsCycle heap.old heap.new }
 {
     let value = &local.register(reg);
     if is_own(local, *value) {
@@ -47,6 +49,7 @@ fn retain_own(
     requires own { option_map_or (is_in (part_in local.old)) ((part_in local.old).registers reg) false ≡ true }
     ensures ok { IfOk result (λ reply. Makes local.old local.new heap.old heap.new (call.Retain reg) reply) }
     ensures err { OnErr result (Stays local.old local.new heap.old heap.new) }
+    ensures cycle { KeepsCycle heap.old heap.new }
 {
     if heap.options().counts == 0 {
         return Ok(Reply::Misuse(Misuse::CountFull));
@@ -65,7 +68,8 @@ fn retain_own(
 /// changed. O(1) expected.
 pub fn release(local: &Local, heap: &mut Heap, reg: Reg) -> Reply
     requires { CanMake local.now heap.old (call.Release reg) }
-    ensures { Makes local.now local.now heap.old heap.new (call.Release reg) result }
+    ensures makes { Makes local.now local.now heap.old heap.new (call.Release reg) result }
+    ensures cycle { KeepsCycle heap.old heap.new }
 {
     let value = &local.register(reg);
     if is_own(local, *value) {
@@ -92,6 +96,7 @@ pub fn take(local: &mut Local, heap: &mut Heap, to: Reg, id: BlockId) -> Result<
     requires { CanMake local.old heap.old (call.Take to id) }
     ensures ok { IfOk result (λ reply. Makes local.old local.new heap.old heap.new (call.Take to id) reply) }
     ensures err { OnErr result (Stays local.old local.new heap.old heap.new) }
+    ensures cycle { KeepsCycle heap.old heap.new }
 {
     let reply = heap.take_held(local.thread(), id)?;
     receive(local, heap, to, &reply);

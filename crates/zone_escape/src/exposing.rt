@@ -3,7 +3,7 @@ ghost use Rattle.std.specs.Prelude.{◌≡◌, [], None, false, IfOk, OnErr};
 ghost use Rattle.std.specs.Option.{option_map_or};
 ghost use Rattle.zone_model.specs.Part.{is_in};
 ghost use Rattle.local_set.specs.LocalSets.{part_in};
-ghost use Rattle.escape_plan.specs.Escapes.{Escapes, KeepsRest};
+ghost use Rattle.escape_plan.specs.Escapes.{Escapes, KeepsCycle, KeepsRest};
 ghost use Rattle.escape_plan.specs.Together.{AreTogether, StayTogether};
 
 use az_base::{BlockId, NoMemory};
@@ -35,6 +35,7 @@ pub fn expose(
     requires out { local.old.waiting ≡ [] }
     ensures ok { IfOk result (λ fit. Escapes local.old local.new heap.old heap.new None value fit) }
     ensures rest { KeepsRest local.old local.new }
+    ensures cycle { KeepsCycle heap.old heap.new }
     ensures err { OnErr result (StayTogether local.old local.new heap.old heap.new) }
 {
     let value = &value;

@@ -7,6 +7,7 @@ ghost use Rattle.zone_model.specs.Collection.{Lists};
 ghost use Rattle.zone_model.specs.Part.{is_in};
 ghost use Rattle.local_set.specs.LocalSets.{part_in};
 ghost use Rattle.shared_heap.specs.Holding.{refers_to};
+ghost use Rattle.escape_plan.specs.Escapes.{KeepsCycle};
 ghost use Rattle.escape_plan.specs.Moving.{Told, refer_to};
 ghost use Rattle.zone_escape.specs.Making.{CanMake, Makes, Stays};
 ghost use Rattle.zone_escape.specs.Telling.{below, emptied, stands_at, refer_from, LetsGo};
@@ -100,6 +101,7 @@ pub(crate) fn leave(alloc: Global, local: &mut Local, heap: &mut Heap) -> Result
     ensures same { IfOk result (λ answer. bare_reply answer.copy ≡ bare_reply answer.reply) }
     ensures ended { OnOk result (local.new.ended ≡ true) }
     ensures err { OnErr result (Stays local.old local.new heap.old heap.new) }
+    ensures cycle { KeepsCycle heap.old heap.new }
 {
     let gone = local.own_ids(alloc)?;
     let copy = gone.try_copy(alloc)?;

@@ -11,18 +11,22 @@
 //!   made on the heap, and its entry goes into the journal.
 //!
 //! Room is taken first: in the journal for all entries that come, then in the heap for what the call needs. So want of
-//! memory leaves nothing half done: at most the waiting entries were published.
+//! memory leaves nothing half done: at most the waiting entries were published. A Begin takes the room for all entries of
+//! its cycle, which nobody else's entries use up, so that no later step of the cycle is refused.
 #![tactic(auto)]
 
 mod answers;
 mod assocs;
 mod births;
 mod counts;
+mod cycles;
 mod exposing;
 mod laws;
 mod leaving;
+mod marking;
 mod phase;
 mod publishing;
+mod ranges;
 mod receiving;
 mod roots;
 mod stepping;
@@ -36,6 +40,7 @@ pub use laws::{
     other_sets_stay_with_their_core, publications_leave_the_open_cycle,
     what_a_thread_may_do_stays_with_the_cycle,
 };
+pub use marking::slice;
 pub use phase::may;
 pub use publishing::flush;
 pub use stepping::step;

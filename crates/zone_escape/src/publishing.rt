@@ -7,7 +7,7 @@ ghost use Rattle.zone_escape.specs.Publications.{Flushed, Untouched};
 
 use crate::telling::tell;
 use crate::zone_core::Core;
-use az_base::NoMemory;
+use az_base::{NoMemory, Reg};
 use local_set::Local;
 use zone_history::Journal;
 
@@ -51,6 +51,16 @@ fn take_room(local: &Local, core: &mut Core, more: u32) -> Result<(), NoMemory>
     core.journal.reserve(u64::from(more))
 }
 
+/// A thread has sixteen registers.
+fn has_sixteen(local: &Local)
+    ensures { length local.now.published ≡ 16 }
+{
+    let Some(reg) = Reg::new(0) else {
+        unreachable!()
+    };
+    let _ = local.published(reg);
+}
+
 /// Publishes what waits, and takes room for `more` entries beside. NoMemory leaves all as it was.
 fn publish_waiting(local: &mut Local, core: &mut Core, more: u32) -> Result<(), NoMemory>
     requires { BelongsTo local.old core.old }
@@ -64,6 +74,7 @@ fn publish_waiting(local: &mut Local, core: &mut Core, more: u32) -> Result<(), 
     tell(local, &mut core.heap);
     push_waiting(local, &mut core.journal);
     local.mark_published();
+    has_sixteen(local);
     Ok(())
 }
 

@@ -1,6 +1,7 @@
 //! The calls on roots.
 ghost use Rattle.std.specs.Prelude.{◌≡◌, IfOk, OnErr};
 ghost use Rattle.zone_model.specs.declared.call.Call.TheVariants as call;
+ghost use Rattle.escape_plan.specs.Escapes.{KeepsCycle};
 ghost use Rattle.zone_escape.specs.Making.{CanMake, Makes, Stays};
 
 use crate::exposing::expose;
@@ -22,6 +23,7 @@ pub fn get_root(
     requires { CanMake local.old heap.old (call.GetRoot to root) }
     ensures ok { IfOk result (λ reply. Makes local.old local.new heap.old heap.new (call.GetRoot to root) reply) }
     ensures err { OnErr result (Stays local.old local.new heap.old heap.new) }
+    ensures cycle { KeepsCycle heap.old heap.new }
 {
     let reply = heap.get_root(local.thread(), root)?;
     receive(local, heap, to, &reply);
@@ -40,6 +42,7 @@ pub fn set_root(
     requires { CanMake local.old heap.old (call.SetRoot root from) }
     ensures ok { IfOk result (λ reply. Makes local.old local.new heap.old heap.new (call.SetRoot root from) reply) }
     ensures err { OnErr result (Stays local.old local.new heap.old heap.new) }
+    ensures cycle { KeepsCycle heap.old heap.new }
 {
     let value = &local.register(from);
     if !expose(alloc, local, heap, *value)? {

@@ -10,6 +10,7 @@ ghost use Rattle.zone_model.specs.Part.{is_in};
 ghost use Rattle.zone_model.specs.State.{State};
 ghost use Rattle.local_set.specs.LocalSets.{part_in};
 ghost use Rattle.escape_plan.specs.Together.{Together};
+ghost use Rattle.escape_plan.specs.Escapes.{KeepsCycle};
 ghost use Rattle.zone_escape.specs.Making.{CanMake, Makes, Stays};
 ghost use Rattle.zone_escape.specs.WeakWords.{IsWeakMisuse, IsHeld};
 
@@ -53,6 +54,7 @@ pub fn read_weak(local: &mut Local, heap: &mut Heap, to: Reg, loc: Loc) -> Resul
     requires { CanMake local.old heap.old (call.ReadWeak to loc) }
     ensures ok { IfOk result (λ reply. Makes local.old local.new heap.old heap.new (call.ReadWeak to loc) reply) }
     ensures err { OnErr result (Stays local.old local.new heap.old heap.new) }
+    ensures cycle { KeepsCycle heap.old heap.new }
 {
     match loc {
         Loc::Root(root) => read_root(local, heap, to, root),
@@ -65,6 +67,7 @@ fn read_root(local: &mut Local, heap: &mut Heap, to: Reg, root: WeakNo) -> Resul
     requires { CanMake local.old heap.old (call.ReadWeak to (loc.Root root)) }
     ensures ok { IfOk result (λ reply. Makes local.old local.new heap.old heap.new (call.ReadWeak to (loc.Root root)) reply) }
     ensures err { OnErr result (Stays local.old local.new heap.old heap.new) }
+    ensures cycle { KeepsCycle heap.old heap.new }
 {
     let reply = heap.read_weak(local.thread(), WeakLoc::Root(root))?;
     receive(local, heap, to, &reply);
@@ -82,6 +85,7 @@ fn read_word(
     requires { CanMake local.old heap.old (call.ReadWeak to (loc.Word from at)) }
     ensures ok { IfOk result (λ reply. Makes local.old local.new heap.old heap.new (call.ReadWeak to (loc.Word from at)) reply) }
     ensures err { OnErr result (Stays local.old local.new heap.old heap.new) }
+    ensures cycle { KeepsCycle heap.old heap.new }
 {
     let Some(id) = local.register(from) else {
         return Ok(Reply::Misuse(Misuse::NullBlock));
@@ -99,7 +103,8 @@ fn read_own(local: &mut Local, heap: &mut Heap, to: Reg, from: Reg, id: BlockId,
     requires can { CanMake local.old heap.old (call.ReadWeak to (loc.Word from at)) }
     requires holds { (part_in local.old).registers from ≡ Some id }
     requires own { is_in (part_in local.old) id ≡ true }
-    ensures { Makes local.old local.new heap.old heap.new (call.ReadWeak to (loc.Word from at)) result }
+    ensures makes { Makes local.old local.new heap.old heap.new (call.ReadWeak to (loc.Word from at)) result }
+    ensures cycle { KeepsCycle heap.old heap.new }
 {
     if let Some(misuse) = layout_misuse(local.layout_of(id), at) {
         return Reply::Misuse(misuse);
@@ -123,6 +128,7 @@ pub fn set_weak(
     requires { CanMake local.old heap.old (call.SetWeak loc from) }
     ensures ok { IfOk result (λ reply. Makes local.old local.new heap.old heap.new (call.SetWeak loc from) reply) }
     ensures err { OnErr result (Stays local.old local.new heap.old heap.new) }
+    ensures cycle { KeepsCycle heap.old heap.new }
 {
     match loc {
         Loc::Root(root) => set_root(alloc, local, heap, root, from),
@@ -141,6 +147,7 @@ fn set_root(
     requires { CanMake local.old heap.old (call.SetWeak (loc.Root root) from) }
     ensures ok { IfOk result (λ reply. Makes local.old local.new heap.old heap.new (call.SetWeak (loc.Root root) from) reply) }
     ensures err { OnErr result (Stays local.old local.new heap.old heap.new) }
+    ensures cycle { KeepsCycle heap.old heap.new }
 {
     let value = &local.register(from);
     if !escape(alloc, local, heap, None, *value)? {
@@ -164,6 +171,7 @@ fn set_word(
     requires { CanMake local.old heap.old (call.SetWeak (loc.Word into at) from) }
     ensures ok { IfOk result (λ reply. Makes local.old local.new heap.old heap.new (call.SetWeak (loc.Word into at) from) reply) }
     ensures err { OnErr result (Stays local.old local.new heap.old heap.new) }
+    ensures cycle { KeepsCycle heap.old heap.new }
 {
     let Some(id) = local.register(into) else {
         return Ok(Reply::Misuse(Misuse::NullBlock));
@@ -190,6 +198,7 @@ fn show(
     requires right { IsWeakMisuse local.old heap.old id at None }
     ensures ok { IfOk result (λ reply. Makes local.old local.new heap.old heap.new (call.SetWeak (loc.Word into at) from) reply) }
     ensures err { OnErr result (Stays local.old local.new heap.old heap.new) }
+    ensures cycle { KeepsCycle heap.old heap.new }
 {
     let id = &id;
     let value = &local.register(from);

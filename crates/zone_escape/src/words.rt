@@ -1,6 +1,7 @@
 //! The calls on words of escaped blocks.
 ghost use Rattle.std.specs.Prelude.{◌≡◌, IfOk, OnErr};
 ghost use Rattle.zone_model.specs.declared.call.Call.TheVariants as call;
+ghost use Rattle.escape_plan.specs.Escapes.{KeepsCycle};
 ghost use Rattle.zone_escape.specs.Making.{CanMake, Makes, Stays};
 
 use crate::exposing::expose;
@@ -23,6 +24,7 @@ pub fn load(
     requires { CanMake local.old heap.old (call.Load to from at) }
     ensures ok { IfOk result (λ reply. Makes local.old local.new heap.old heap.new (call.Load to from at) reply) }
     ensures err { OnErr result (Stays local.old local.new heap.old heap.new) }
+    ensures cycle { KeepsCycle heap.old heap.new }
 {
     let holder = local.register(from);
     let reply = heap.load(local.thread(), holder, at)?;
@@ -44,6 +46,7 @@ pub fn store(
     requires { CanMake local.old heap.old (call.Store into at from) }
     ensures ok { IfOk result (λ reply. Makes local.old local.new heap.old heap.new (call.Store into at from) reply) }
     ensures err { OnErr result (Stays local.old local.new heap.old heap.new) }
+    ensures cycle { KeepsCycle heap.old heap.new }
 {
     let holder = &local.register(into);
     if let Some(misuse) = heap.word_misuse(*holder, at, Class::Strong) {
@@ -63,7 +66,8 @@ pub fn store(
 /// expected.
 pub fn put(local: &Local, heap: &mut Heap, into: Reg, at: u32, number: u64) -> Reply
     requires { CanMake local.now heap.old (call.Put into at number) }
-    ensures { Makes local.now local.now heap.old heap.new (call.Put into at number) result }
+    ensures makes { Makes local.now local.now heap.old heap.new (call.Put into at number) result }
+    ensures cycle { KeepsCycle heap.old heap.new }
 {
     let holder = local.register(into);
     heap.put(local.thread(), holder, at, number)

@@ -10,7 +10,7 @@ ghost use Rattle.zone_model.specs.Escape.{with_escaped};
 ghost use Rattle.shared_heap.specs.Holding.{HoldsAdmitted, HoldsSet};
 ghost use Rattle.block_table.specs.Table.{used_by};
 ghost use Rattle.shared_heap.specs.Shared.{held, holding, admitted, with_gc, IsFresh};
-ghost use Rattle.shared_heap.specs.Cycles.{Livens, blocks_in};
+ghost use Rattle.heap_cycle.specs.Livening.{Livens, blocks_in};
 ghost use Rattle.shared_heap.specs.Stands.{Stands};
 ghost use Rattle.shared_heap.specs.Steps.{IsUnescaped};
 ghost use Rattle.block_layouts.specs.Fitting.{Fits};
@@ -18,6 +18,7 @@ ghost use Rattle.block_layouts.specs.Fitting.{Fits};
 use crate::heap::Heap;
 use az_base::{BlockId, NoMemory, ThreadNo, Word};
 use block_layouts::Layout;
+use heap_cycle::{enliven_words, reserve_cards};
 use std::alloc::Global;
 
 impl Heap {
@@ -28,6 +29,7 @@ impl Heap {
         ensures ok { OnOk result (self.new ≡ record self.old { room = lengths.now }) }
         ensures err { OnErr result (self.new ≡ self.old) }
     {
+        reserve_cards(&mut self.tables, lengths.len())?;
         self.tables.blocks.reserve(lengths)
     }
 
@@ -52,6 +54,8 @@ impl Heap {
         ensures used { used_by self.new.blocks ≡ used_by self.old.blocks + quanta (len_of layout) }
         ensures stands { (z : State) → Stands self.old z → OpenReached z → IsUnescaped z id layout words.items → Stands self.new (with_escaped z (same_id id)) }
     {
+        enliven_words(&mut self.tables, &mut self.open_cycle, words.as_slice());
+        self.tables.are_tables();
         let actions = Vec::new(*words.allocator());
         self.tables.blocks.insert(id, layout, words, actions, None);
     }

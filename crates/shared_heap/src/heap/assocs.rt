@@ -1,10 +1,11 @@
 //! The associations.
-ghost use Rattle.std.specs.Prelude.{◌≡◌, ◌+◌, ℕ, IfOk, IfSome, IsOk, IsSome, OnErr, None, Some, ◌==◌, ◌&&◌, if◌then◌else◌};
+ghost use Rattle.std.specs.Prelude.{◌≡◌, ◌+◌, ℕ, IfOk, IfSome, IsOk, IsSome, OnErr, OnOk, None, Some, ◌==◌, ◌&&◌, if◌then◌else◌};
 ghost use Rattle.std.specs.FinMap.{get};
 ghost use Rattle.az_base.specs.declared.block_id.BlockId.{BlockId};
 ghost use Rattle.zone_model.specs.declared.call.Call.TheVariants as call;
 ghost use Rattle.zone_model.specs.State.{State};
-ghost use Rattle.shared_heap.specs.Cycles.{AfterBarrier, of_option};
+ghost use Rattle.shared_heap.specs.Cycles.{AfterBarrier};
+ghost use Rattle.heap_cycle.specs.Livening.{of_option};
 ghost use Rattle.shared_heap.specs.Assocs.{assoc_reply, associated};
 ghost use Rattle.shared_heap.specs.Shared.{held, with_gc};
 ghost use Rattle.shared_heap.specs.Stands.{EscapedClosed};
@@ -12,7 +13,9 @@ ghost use Rattle.shared_heap.specs.Holding.{HoldsMore};
 ghost use Rattle.shared_heap.specs.Steps.{Runs, Stepped, after_read, names};
 
 use crate::heap::Heap;
+use assoc_refs::Assocs;
 use az_base::{BlockId, Key, Misuse, NoMemory, ThreadNo};
+use heap_cycle::tell_store;
 use zone_model::Reply;
 
 impl Heap {
@@ -41,7 +44,12 @@ impl Heap {
         let Some(object) = object else {
             return Ok(Reply::Misuse(Misuse::NullBlock));
         };
-        let before = self.tables.assocs.set(object, key, value)?;
+        reserve_value(&mut self.tables.assocs, object, &value)?;
+        self.tables.are_tables();
+        tell_store(&mut self.tables, &mut self.open_cycle, object, value);
+        let Ok(before) = self.tables.assocs.set(object, key, value) else {
+            unreachable!()
+        };
         Ok(Reply::Block(before))
     }
 
@@ -66,5 +74,23 @@ impl Heap {
         let value = self.tables.assocs.get(object, key);
         self.hold_more(t, &value)?;
         Ok(Reply::Block(value))
+    }
+}
+
+/// Room for the value, if there is one, so that it comes in without memory.
+fn reserve_value(
+    assocs: &mut Assocs,
+    object: BlockId,
+    value: &Option<BlockId>,
+) -> Result<(), NoMemory>
+    ensures pairs { assocs.new.pairs ≡ assocs.old.pairs }
+    ensures ready { OnOk result (IfSome value.now (λ b. assocs.new.ready ≡ Some object)) }
+    ensures sure { assocs.old.ready ≡ Some object → IsOk result }
+    ensures taken { value.now ≡ None → IsOk result }
+    ensures err { OnErr result (assocs.new ≡ assocs.old) }
+{
+    match value {
+        Some(_) => assocs.reserve_one(object),
+        None => Ok(()),
     }
 }

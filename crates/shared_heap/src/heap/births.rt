@@ -137,7 +137,8 @@ impl Heap {
         let words = layout.first_words(alloc)?;
         let actions = Vec::from_slice(alloc, actions)?;
         let own = layout.try_copy(alloc)?;
-        self.tables.blocks.reserve(&[layout.len()])?;
+        self.reserve_admit(alloc, &[layout.len()])?;
+        self.tables.are_tables();
         self.tables.blocks.insert(id, own, words, actions, Some(t));
         self.unfinalised += waiting;
         Ok(())

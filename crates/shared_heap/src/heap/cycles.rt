@@ -1,22 +1,27 @@
 //! The calls of a cycle.
-ghost use Rattle.std.specs.Prelude.{◌≡◌, ◌<◌, ◌≤◌, ◌+◌, ℕ, [], None, true, is_some, IfOk, IfSome, OnErr, MatchOption, length, if◌then◌else◌, option_map};
+ghost use Rattle.std.specs.Prelude.{◌≡◌, ◌<◌, ◌≤◌, ◌+◌, [], Some, is_some, IfOk, IfSome, OnErr, MatchOption, length, not, true, if◌then◌else◌, option_map};
+ghost use Rattle.std.specs.FinMap.{retain_keys};
 ghost use Rattle.gen_marker.specs.Progress.{Ends};
+ghost use Rattle.heap_cycle.specs.Collector.{Collecting, shade_in};
+ghost use Rattle.heap_cycle.specs.Waiting.{unfinalised_by};
 ghost use Rattle.zone_model.specs.declared.call.Call.TheVariants as call;
 ghost use Rattle.zone_model.specs.declared.entry.Reply.TheVariants as reply;
 ghost use Rattle.zone_model.specs.Phases.{left_in};
-ghost use Rattle.zone_model.specs.State.{State, Cycle};
-ghost use Rattle.shared_heap.specs.Collector.{Collecting, no_collector, shade_in};
+ghost use Rattle.zone_model.specs.State.{State, Cycle, is_word_of};
 ghost use Rattle.shared_heap.specs.Cycles.{IsOpenOf, IsMarking, IsSettling, AfterBegin, AfterCondemn, AfterFinalise, AfterReclaim, Darkens, black_in, one_lent};
 ghost use Rattle.shared_heap.specs.Holding.{Serves};
-ghost use Rattle.shared_heap.specs.Shared.{finalisers_left, is_busy, unfinalised_by, with_gc};
+ghost use Rattle.shared_heap.specs.Shared.{finalisers_left, is_busy, with_gc};
 ghost use Rattle.shared_heap.specs.Stands.{Stands};
 ghost use Rattle.shared_heap.specs.Steps.{Stepped};
 
 use crate::heap::Heap;
-use az_base::{Mode, NoMemory, Steps, ThreadNo};
+use az_base::{BlockId, Mode, NoMemory, Steps, ThreadNo};
+use finalise_pass::Settled;
 use gen_marker::Progress;
+use heap_cycle::{OpenCycle, Phase};
 use std::alloc::Global;
 use std::sync::ledger::Ledger;
+use weak_table::Weak;
 use zone_model::{IdList, Reply};
 
 impl Heap {
@@ -32,9 +37,13 @@ impl Heap {
         ensures step { IfOk result (λ r. (z : State) → Serves self.old z t → Stepped self.new z t (call.Begin mode) r) }
         ensures err { OnErr result (self.new ≡ self.old) }
     {
-        let _ = (alloc, t, mode);
-        self.idle();
-        Err(NoMemory)
+        if self.open_cycle.is_some() {
+            return Ok(Reply::Busy);
+        }
+        let cycle = OpenCycle::begin(alloc, &mut self.tables, t, mode, self.unfinalised)?;
+        self.tables.are_tables();
+        put(&mut self.open_cycle, cycle);
+        Ok(Reply::Begun)
     }
 
     /// Scans grey blocks of the thread's cycle, at most `budget`, one tick each. More exactly where so many were scanned
@@ -54,8 +63,11 @@ impl Heap {
         ensures ends { IfSome self.new.gc.cycle (λ g. Ends result g.start (shade_in g) (steps.new ≡ steps.old + budget)) }
         ensures stands { (z : State) → Serves self.old z t → Stands self.new z }
     {
-        self.idle();
-        unreachable!()
+        self.tables.are_tables();
+        match &mut self.open_cycle {
+            Some(cycle) => cycle.slice(&mut self.tables, budget, steps),
+            None => unreachable!(),
+        }
     }
 
     /// Marks to the end, and condemns what is white then. It takes no memory, and the room that was ready for a weak location
@@ -65,8 +77,14 @@ impl Heap {
         ensures after { AfterCondemn self.old result self.new }
         ensures step { (z : State) → Serves self.old z t → Stepped self.new z t call.Condemn result }
     {
-        self.idle();
-        unreachable!()
+        self.tables.are_tables();
+        let Some(cycle) = self.open_cycle.take() else {
+            unreachable!()
+        };
+        let (cycle, reply) = cycle.condemn(&mut self.tables);
+        self.weak.condemn(reply.as_slice());
+        put(&mut self.open_cycle, cycle);
+        Reply::Condemned(reply)
     }
 
     /// Runs the finaliser of the least condemned block that waits for it. It takes no memory. O(the condemned blocks
@@ -78,8 +96,14 @@ impl Heap {
         ensures one { finalisers_left self.new + 1 ≡ finalisers_left self.old }
         ensures step { (z : State) → Serves self.old z t → Stepped self.new z t call.Finalise result }
     {
-        self.idle();
-        unreachable!()
+        // There are 256 roots.
+        let _roots = self.tables.roots.as_slice();
+        let Some(cycle) = &mut self.open_cycle else {
+            unreachable!()
+        };
+        let id = cycle.finalise_next(&mut self.tables);
+        self.unfinalised -= 1;
+        Reply::Finalised(id)
     }
 
     /// Reclaims the condemned blocks to which nothing leads, and closes the cycle. It takes no memory, and the room of
@@ -90,8 +114,13 @@ impl Heap {
         ensures after { AfterReclaim self.old result self.new }
         ensures step { (z : State) → Serves self.old z t → Stepped self.new z t call.Reclaim result }
     {
-        self.idle();
-        unreachable!()
+        self.tables.are_tables();
+        let Some(cycle) = self.open_cycle.take() else {
+            unreachable!()
+        };
+        let Settled { kept, reclaimed } = cycle.reclaim(&mut self.tables);
+        forget_words(&mut self.weak, reclaimed.as_slice());
+        Reply::Settled { reclaimed, kept }
     }
 
     /// How many condemned blocks wait for their finaliser. O(1).
@@ -99,8 +128,14 @@ impl Heap {
         ensures value { result ≡ finalisers_left self.now }
         ensures stands { (z : State) → Stands self.now z → result ≡ left_in z }
     {
-        self.idle();
-        0
+        self.tables.are_tables();
+        match &self.open_cycle {
+            Some(cycle) => match &cycle.phase {
+                Phase::Marking { .. } => 0,
+                Phase::Settling { .. } => cycle.left,
+            },
+            None => 0,
+        }
     }
 
     /// How many blocks have actions and aren't finalised. O(1).
@@ -110,15 +145,15 @@ impl Heap {
         self.unfinalised
     }
 
-    /// The open cycle's owner, and whether it is condemned; None exactly where there is none. No collector is built yet, so
-    /// none is ever open (`idle`). O(1).
+    /// The open cycle's owner, and whether it is condemned; None exactly where there is none. O(1).
     pub fn cycle(&self) -> Option<(ThreadNo, bool)>
         ensures value { result ≡ option_map (λ (g : Collecting). (g.owner, is_some g.condemned)) self.now.gc.cycle }
         ensures stands { (z : State) → Stands self.now z → result ≡ option_map (λ (c : Cycle). (c.owner, is_some c.condemned)) z.cycle }
-        ensures idle { self.now.gc.cycle ≡ None }
     {
-        self.idle();
-        None
+        match &self.open_cycle {
+            Some(cycle) => Some((cycle.owner, cycle.is_condemned())),
+            None => None,
+        }
     }
 
     /// An empty list with room for the blocks of the open cycle's start. It takes no memory. O(1).
@@ -128,14 +163,25 @@ impl Heap {
         ensures room { IfSome self.old.gc.cycle (λ g. length g.start ≤ result.spare) }
         ensures value { self.new ≡ with_gc self.old (one_lent self.old.gc) }
     {
-        self.idle();
-        unreachable!()
+        let Some(cycle) = &mut self.open_cycle else {
+            unreachable!()
+        };
+        cycle.lend_room()
     }
+}
 
-    /// No cycle is open, since no collector is built yet.
-    pub(crate) fn idle(&self)
-        ensures { self.now.gc ≡ no_collector }
-    {
-        let _ = &self.tables;
+/// The cycle is open from now on, in place of none.
+fn put(slot: &mut Option<OpenCycle>, cycle: OpenCycle)
+    ensures { slot.new ≡ Some cycle }
+{
+    let _before = slot.replace(cycle);
+}
+
+/// No word of the blocks shows anything. It takes no memory. O(the blocks, and their words that showed something).
+fn forget_words(weak: &mut Weak, gone: &[BlockId])
+    ensures { weak.new.shown ≡ retain_keys weak.old.shown (λ l. not (is_word_of gone.now l)) }
+{
+    for id in gone {
+        weak.forget_in(*id);
     }
 }

@@ -6,7 +6,7 @@ ghost use Rattle.zone_model.specs.declared.call.Call.TheVariants as call;
 ghost use Rattle.zone_model.specs.declared.entry.Reply.TheVariants as reply;
 ghost use Rattle.zone_model.specs.State.{State};
 ghost use Rattle.shared_heap.specs.Shared.{root_in, rooted, holding_more, with_gc};
-ghost use Rattle.shared_heap.specs.Cycles.{Livens, of_option};
+ghost use Rattle.heap_cycle.specs.Livening.{Livens, of_option};
 ghost use Rattle.shared_heap.specs.Stands.{EscapedClosed};
 ghost use Rattle.shared_heap.specs.Holding.{HoldsMore};
 ghost use Rattle.shared_heap.specs.Steps.{Runs, Stepped, after_read, names};
@@ -25,7 +25,9 @@ impl Heap {
         ensures step { (z : State) (from : ℕ) → Runs self.old z t → EscapedClosed z → z.registers t from ≡ value → Stepped self.new z t (call.SetRoot root from) result }
     {
         let _roots = self.tables.roots.as_slice();
-        self.tables.roots.set(root, value);
+        let value = &value;
+        self.tell(*value);
+        self.tables.roots.set(root, *value);
         Reply::Done
     }
 

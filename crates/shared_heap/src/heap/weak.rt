@@ -13,11 +13,13 @@ ghost use Rattle.shared_heap.specs.Stands.{EscapedClosed};
 ghost use Rattle.shared_heap.specs.Holding.{HoldsMore};
 ghost use Rattle.shared_heap.specs.Steps.{Runs, Stepped, after_read, names};
 ghost use Rattle.shared_heap.specs.Weak.{IsPlaced, loc_misuse, showing, shown_in, after_assign};
-ghost use Rattle.shared_heap.specs.Cycles.{AfterBarrier, of_option};
+ghost use Rattle.shared_heap.specs.Cycles.{AfterBarrier};
+ghost use Rattle.heap_cycle.specs.Livening.{of_option};
 ghost use Rattle.shared_heap.specs.Words.{reply_or};
 
 use crate::heap::Heap;
 use az_base::{BlockId, Class, Misuse, NoMemory, ThreadNo, WeakLoc};
+use heap_cycle::is_condemned;
 use zone_model::Reply;
 
 impl Heap {
@@ -69,19 +71,22 @@ impl Heap {
             None => {
                 let value = self.weak.read(*loc);
                 self.hold_more(t, &value)?;
-                self.idle();
+                self.tell(value);
                 Ok(Reply::Block(value))
             }
         }
     }
 
-    /// What a location comes to show where the block is assigned to it. No block is condemned yet.
+    /// What a location comes to show where the block is assigned to it: null where the block is condemned.
     fn shown(&self, value: Option<BlockId>) -> Option<BlockId>
         ensures value { result ≡ shown_in self.now value }
         ensures less { IfSome result (λ b. value ≡ Some b) }
     {
-        let _ = &self.tables;
-        value
+        let id = value?;
+        if is_condemned(&self.open_cycle, id) {
+            return None;
+        }
+        Some(id)
     }
 
     /// What is wrong with the location.

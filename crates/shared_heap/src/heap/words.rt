@@ -8,7 +8,8 @@ ghost use Rattle.zone_model.specs.declared.call.Call.{Call};
 ghost use Rattle.zone_model.specs.declared.call.Call.TheVariants as call;
 ghost use Rattle.zone_model.specs.declared.entry.Reply.TheVariants as reply;
 ghost use Rattle.zone_model.specs.State.{State, reference, referent};
-ghost use Rattle.shared_heap.specs.Cycles.{AfterBarrier, of_option};
+ghost use Rattle.shared_heap.specs.Cycles.{AfterBarrier};
+ghost use Rattle.heap_cycle.specs.Livening.{of_option};
 ghost use Rattle.block_table.specs.Table.{used_by};
 ghost use Rattle.shared_heap.specs.Shared.{held, with_gc};
 ghost use Rattle.shared_heap.specs.Stands.{Stands, EscapedClosed};
@@ -19,6 +20,7 @@ ghost use Rattle.shared_heap.specs.Words.{word_misuse, word_in, class_in, Finds,
 
 use crate::heap::Heap;
 use az_base::{BlockId, Class, Misuse, NoMemory, ThreadNo, Word};
+use heap_cycle::tell_store;
 use zone_model::Reply;
 
 /// The word that refers to a block, or to none.
@@ -115,10 +117,16 @@ impl Heap {
         ensures gc { IfOk result (λ r. AfterBarrier self.old.gc self.new.gc r (of_option value) (of_option into)) }
         ensures step { IfOk result (λ r. (z : State) (reg from : ℕ) → Runs self.old z t → EscapedClosed z → z.registers t reg ≡ into → z.registers t from ≡ value → Stepped self.new z t (call.Store reg at from) r) }
     {
-        self.idle();
-        let reply = self.write(into, at, Class::Strong, reference(value));
-        self.idle();
-        Ok(reply)
+        let value = &value;
+        match self.find_word(into, at, Class::Strong) {
+            Err(misuse) => Ok(Reply::Misuse(misuse)),
+            Ok(id) => {
+                self.tables.are_tables();
+                tell_store(&mut self.tables, &mut self.open_cycle, id, *value);
+                self.tables.blocks.set_word(id, at, reference(*value));
+                Ok(Reply::Done)
+            }
+        }
     }
 
     /// Writes a Plain word. O(1) expected.
@@ -128,7 +136,14 @@ impl Heap {
         ensures value { self.new ≡ after_write self.old into at (words.Number number) result }
         ensures step { (z : State) (reg : ℕ) → Runs self.old z t → z.registers t reg ≡ into → Stepped self.new z t (call.Put reg at number) result }
     {
-        self.write(into, at, Class::Plain, Word::Number(number))
+        match self.find_word(into, at, Class::Plain) {
+            Err(misuse) => Reply::Misuse(misuse),
+            Ok(id) => {
+                self.tables.are_tables();
+                self.tables.blocks.set_word(id, at, Word::Number(number));
+                Reply::Done
+            }
+        }
     }
 
     /// Reads a Plain word. O(1) expected.
@@ -140,22 +155,6 @@ impl Heap {
         match self.find_word(from, at, Class::Plain) {
             Err(misuse) => Reply::Misuse(misuse),
             Ok(id) => Reply::Number(self.number_at(id, at)),
-        }
-    }
-
-    /// Writes a word of this class.
-    fn write(&mut self, into: Option<BlockId>, at: u32, class: Class, word: Word) -> Reply
-        requires { Suits class word }
-        ensures reply { result ≡ reply_or (word_misuse self.old into at class) reply.Done }
-        ensures value { self.new ≡ after_write self.old into at word result }
-        ensures fits { used_by self.old.blocks ≤ self.old.options.heap_quanta }
-    {
-        match self.find_word(into, at, class) {
-            Err(misuse) => Reply::Misuse(misuse),
-            Ok(id) => {
-                self.tables.blocks.set_word(id, at, word);
-                Reply::Done
-            }
         }
     }
 

@@ -11,7 +11,7 @@ use Rattle.escape_plan.proofs.Moving.{can_rest, escaped_more}
 use Rattle.escape_plan.proofs.committing.move_all.Goals as goal
 
 pub loop-id-init : goal.loop-id-init
-loop-id-init c = record { rest = c.requires.can; agree = λ z a. rw (none_escaped z) a; local = refl; ready = refl }
+loop-id-init c = record { rest = c.requires.can; agree = λ z a. rw (none_escaped z) a; local = refl; ready = refl; cycle = refl }
 
 pub move_one-requires : goal.move_one-requires
 move_one-requires c =
@@ -42,6 +42,7 @@ loop-id-preserved c =
           subst (Agree m k) (escaped_more z (take i ids) id ∙ ap (λ (ks : List BlockId). with_escaped z (among ks)) (next_taken ids i id at)) (moves.agree y (c.loop-id.invariant.agree z a));
       local = moves.local ∙ ap (λ (s : LocalSet). record s { blocks = m.blocks }) c.loop-id.invariant.local;
       ready = moves.ready ∙ c.loop-id.invariant.ready;
+      cycle = moves.cycle ∙ c.loop-id.invariant.cycle;
     }
 
 pub returns-clause-agree : goal.returns-clause-agree

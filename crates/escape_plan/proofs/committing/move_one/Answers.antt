@@ -1,4 +1,4 @@
-use Rattle.std.proofs.Common.{◌≡◌, ◌+◌, ℕ, None, Some, Option, IsSome, List, arith, drop, ap, sym, subst, refl, cond, not, ◌||◌, ◌∙◌}
+use Rattle.std.proofs.Common.{◌≡◌, ◌+◌, ℕ, None, Some, Option, IsSome, List, arith, drop, option_map, ap, sym, subst, refl, cond, not, ◌||◌, ◌∙◌}
 use Rattle.std.specs.FinMap.{get}
 use Rattle.std.specs.Option.{option_map_or}
 use Rattle.az_base.specs.declared.word.Word.{Word}
@@ -8,6 +8,7 @@ use Rattle.block_layouts.specs.Layouts.{len_of, quanta}
 use Rattle.zone_model.proofs.Blocks.{left_get}
 use Rattle.zone_model.specs.Part.{Part}
 use Rattle.zone_model.specs.State.{Block, State}
+use Rattle.heap_cycle.specs.Livening.{unshaded}
 use Rattle.shared_heap.specs.Holding.{HoldsSet}
 use Rattle.block_table.specs.Table.{used_by}
 use Rattle.shared_heap.specs.Shared.{Shared}
@@ -53,6 +54,7 @@ returns c =
       used =
           ap (λ (s : Shared). used_by s.blocks) c.in-Ok.ensures.ok ∙ c.admit.ensures.used ∙ ap (λ (s : Shared). used_by s.blocks + quanta (len_of c.take_out-layout.result.0)) c.tell_words.ensures.rest
           ∙ ap (λ n. used_by h.blocks + n) (sym (ap (λ (o : Option Block). option_map_or (λ b. quanta (len_of b.layout)) o 0) taken.block));
+      cycle = ap (λ (s : Shared). option_map unshaded s.gc.cycle) c.in-Ok.ensures.ok ∙ c.admit.ensures.gc.cycle ∙ ap (λ (s : Shared). option_map unshaded s.gc.cycle) c.tell_words.ensures.rest;
       agree = λ z a. agree_after l h z id _ _ a own taken.block m told in_it k (ap (λ (s : LocalSet). s.thread) taken.rest) taken.part
           (subst (λ (ws : List Word). Told m h told (refer_to ws)) c.deref.ensures.value c.tell_words.ensures) c.admit.ensures.held
           (subst (λ n. HoldsSet in_it k m.thread id n) c.outs.ensures (subst (λ t. HoldsSet in_it k t id c.outs.result) c.thread.ensures c.in-Ok.ensures.held)) c.admit.ensures.stands c.in-Ok.ensures.stands;

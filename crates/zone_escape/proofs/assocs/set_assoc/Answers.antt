@@ -12,6 +12,7 @@ use Rattle.zone_escape.proofs.Associations.{assoc_tells, assoc_null, assoc_full}
 use Rattle.zone_escape.proofs.Escaped.{has_escaped, is_too_much}
 use Rattle.zone_escape.proofs.Needs.{some_need}
 use Rattle.zone_escape.proofs.Shown.{misused, made, part, running, held, known}
+use Rattle.zone_escape.proofs.OpenCycles.{both_keep, livened}
 use Rattle.zone_escape.proofs.assocs.set_assoc.Goals as goal
 
 pub returns-in_default-clause-ok : goal.returns-in_default-clause-ok
@@ -88,3 +89,9 @@ returns-clause-ok c =
       stepped = subst (λ u. shared.Stepped k (with_escaped z e.need) u the_call r) thread
           (c.in-Ok.ensures.step (with_escaped z e.need) c.args.object c.args.value runs e.shut (ap (λ u. z.registers u c.args.object) thread ∙ sym object) (ap (λ u. z.registers u c.args.value) thread ∙ sym value));
     })
+
+pub returns-clause-cycle : goal.returns-clause-cycle
+returns-clause-cycle c =
+    let g : Shared = c.escape.new.heap in
+    let k : Shared = c.set_assoc.new.self in
+    both_keep c.args.heap.now g k c.in_ok-escape.ensures.cycle (livened g k c.in-Ok.reply _ _ c.in-Ok.ensures.gc)

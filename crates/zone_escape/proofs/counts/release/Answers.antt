@@ -9,10 +9,11 @@ use Rattle.zone_escape.proofs.Counted.{own_block, own_release, release_holds, re
 use Rattle.zone_escape.proofs.Exposed.{holder_there}
 use Rattle.zone_escape.proofs.Making.{runs, in_register, answered}
 use Rattle.zone_escape.proofs.Shown.{misused}
+use Rattle.zone_escape.proofs.OpenCycles.{release_keeps}
 use Rattle.zone_escape.proofs.counts.release.Goals as goal
 
-pub returns-then-is_own : goal.returns-then-is_own
-returns-then-is_own c =
+pub returns-then-is_own-clause-makes : goal.returns-then-is_own-clause-makes
+returns-then-is_own-clause-makes c =
     let l = c.args.local.now in
     let h = c.args.heap.now in
     let the_call = call.Release c.args.reg in
@@ -26,8 +27,8 @@ release-requires c =
       given = holder_there l c.args.heap.now (call.Release c.args.reg) c.requires c.args.reg c.register.result c.register.ensures (ap (λ o. option_map_or (is_in (part_in l)) o false) (sym c.register.ensures) ∙ sym c.is_own.ensures ∙ c.if-is_own.false);
     }
 
-pub returns : goal.returns
-returns c =
+pub returns-clause-makes : goal.returns-clause-makes
+returns-clause-makes c =
     let l = c.args.local.now in
     let h = c.args.heap.now in
     let the_call = call.Release c.args.reg in
@@ -41,3 +42,6 @@ returns c =
       refl,
       c.release.ensures.step z c.args.reg (runs l h the_call c.requires c.thread.result c.thread.ensures z t) (in_register l h the_call c.requires c.thread.result c.thread.ensures c.args.reg a c.register.ensures z t),
     ))
+
+pub returns-clause-cycle : goal.returns-clause-cycle
+returns-clause-cycle c = release_keeps c.args.heap.now c.release.new.self c.register.result c.release.result c.release.ensures.value

@@ -9,6 +9,7 @@ use Rattle.zone_escape.proofs.Counted.{retain_holds, retain_room, retain_options
 use Rattle.zone_escape.proofs.Exposed.{holder_there, register_out, nothing_escapes}
 use Rattle.zone_escape.proofs.Making.{runs, in_register, answered}
 use Rattle.zone_escape.proofs.Shown.{is_shared}
+use Rattle.zone_escape.proofs.OpenCycles.{retain_keeps}
 use Rattle.zone_escape.proofs.counts.retain.Goals as goal
 
 pub retain-requires : goal.retain-requires
@@ -36,3 +37,6 @@ returns-clause-ok c =
       refl,
       e.step z c.args.reg (runs l h the_call c.requires c.thread.result c.thread.ensures z t) (closed z t.heap.sound) (in_register l h the_call c.requires c.thread.result c.thread.ensures c.args.reg a c.register.ensures z t),
     ))
+
+pub returns-clause-cycle : goal.returns-clause-cycle
+returns-clause-cycle c = let k = c.retain.new.self in retain_keeps c.args.heap.now k c.register.result k.ready.counts c.in_ok-reply.reply c.in_ok-reply.ensures.value

@@ -16,6 +16,7 @@ use Rattle.zone_escape.proofs.Counted.{own_block, own_full, own_retain, raises, 
 use Rattle.zone_escape.proofs.Exposed.{one_second, did_escape, is_there, too_many, shown}
 use Rattle.zone_escape.proofs.Needs.{some_need}
 use Rattle.zone_escape.proofs.Shown.{is_out, is_shared, known, held, part, misused}
+use Rattle.zone_escape.proofs.OpenCycles.{both_keep, retain_keeps}
 use Rattle.zone_escape.proofs.counts.retain_own.Goals as goal
 
 pub returns-then-options-eq0-clause-ok : goal.returns-then-options-eq0-clause-ok
@@ -83,3 +84,9 @@ returns-clause-ok c =
       still = refl;
       stepped = e.step y c.args.reg runs (closed y together.heap.sound) (ap (λ u. z.registers u c.args.reg) same ∙ sym at);
     })
+
+pub returns-clause-cycle : goal.returns-clause-cycle
+returns-clause-cycle c =
+    let g : Shared = c.escape.new.heap in
+    let k = c.retain.new.self in
+    both_keep c.args.heap.now g k c.in_ok-escape.ensures.cycle (retain_keeps g k c.register.result k.ready.counts c.in-Ok.reply c.in-Ok.ensures.value)

@@ -1,4 +1,4 @@
-use Rattle.std.proofs.Common.{◌≡◌, ◌++◌, List, [], sym, ap, subst, ◌∙◌}
+use Rattle.std.proofs.Common.{◌≡◌, ◌++◌, List, [], length, sym, ap, subst, ◌∙◌}
 use Rattle.zone_model.specs.declared.entry.Entry.{Entry}
 use Rattle.zone_history.specs.Journals.{Recorded}
 use Rattle.local_set.specs.LocalSets.{LocalSet}
@@ -18,14 +18,15 @@ pub tell-requires : goal.tell-requires
 tell-requires c = let is = c.core.invariant in (is.0, c.requires is.0 (subst (λ (k : CoreShown). IsCoreOf k is.0) c.core.view_is is.1), is.1.heap)
 
 -- all was published
-done : (c : goal.After-mark_published) → let n : CoreShown = record { heap = c.tell.new.heap; journal = c.push_waiting.new.journal } in IsCore n × Flushed c.args.local.now c.mark_published.new.self c.args.core.now n
+done : (c : goal.After-has_sixteen) → let n : CoreShown = record { heap = c.tell.new.heap; journal = c.push_waiting.new.journal } in IsCore n × Flushed c.args.local.now c.mark_published.new.self c.args.core.now n
 done c =
     let l = c.args.local.now in
     let k : CoreShown = record { heap = c.core.inside.heap; journal = c.core.inside.journal } in
     let n : CoreShown = record { heap = c.tell.new.heap; journal = c.push_waiting.new.journal } in
     let same : c.mark_published.new.self ≡ record l { published = l.registers; changed = []; waiting = []; spare = c.push_waiting.new.local.spare } =
     c.mark_published.ensures ∙ ap (λ (s : LocalSet). record s { published = s.registers; changed = [] }) c.push_waiting.ensures.local in
-    let all = flushed l c.push_waiting.new.local.spare k n c.core.invariant (subst (BelongsTo l) (sym c.core.view_is) c.requires)
+    let sixteen = ap (λ (s : LocalSet). length s.registers) (sym c.push_waiting.ensures.local) ∙ ap (λ (s : LocalSet). length s.published) (sym c.mark_published.ensures) ∙ c.has_sixteen.ensures in
+    let all = flushed l c.push_waiting.new.local.spare k n sixteen c.core.invariant (subst (BelongsTo l) (sym c.core.view_is) c.requires)
     (c.push_waiting.ensures.entries ∙ ap (λ (es : List Entry). es ++ l.waiting) c.in_ok-reserve.ensures.entries) (c.push_waiting.ensures.owed ∙ c.in_ok-reserve.ensures.owed) c.tell.ensures in
     (all.0, subst (λ (k : CoreShown). Flushed l c.mark_published.new.self k n) c.core.view_is (subst (λ (m : LocalSet). Flushed l m k n) (sym same) all.1))
 

@@ -9,6 +9,7 @@ use Rattle.shared_heap.specs.Shared.{Shared}
 use Rattle.shared_heap.proofs.Shut.{closed}
 use Rattle.zone_escape.proofs.Exposed.{is_there, too_many, shown}
 use Rattle.zone_escape.proofs.Shown.{held, is_out, is_shared}
+use Rattle.zone_escape.proofs.OpenCycles.{both_keep}
 use Rattle.zone_escape.proofs.roots.set_root.Goals as goal
 
 pub returns-then-not-branch-clause-ok : goal.returns-then-not-branch-clause-ok
@@ -39,3 +40,6 @@ returns-clause-ok c =
       still = subst (λ r. part_after (part_of y l.thread) the_call r ≡ part_of y l.thread) (sym c.set_root.ensures.reply) refl;
       stepped = c.set_root.ensures.step y c.args.from runs (closed y together.heap.sound) (ap (λ u. z.registers u c.args.from) (c.thread.ensures ∙ ap (λ (s : LocalSet). s.thread) c.expose.ensures.rest) ∙ sym at);
     })
+
+pub returns-clause-cycle : goal.returns-clause-cycle
+returns-clause-cycle c = both_keep c.args.heap.now c.expose.new.heap c.set_root.new.self c.in_ok-expose.ensures.cycle c.set_root.ensures.gc.cycle

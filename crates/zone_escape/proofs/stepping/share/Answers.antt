@@ -2,7 +2,7 @@ use Rattle.std.proofs.Common.{◌++◌, ◌∷◌, [], ap, sym, subst, ◌∙◌
 use Rattle.zone_escape.specs.Cores.{CoreShown, IsCore}
 use Rattle.zone_escape.specs.Publications.{Flushed, Stepped}
 use Rattle.zone_escape.proofs.Cores.{core_legal}
-use Rattle.zone_escape.proofs.Cycles.{keeps_steps, keeps_lists}
+use Rattle.zone_escape.proofs.OpenCycles.{keeps_steps, keeps_lists}
 use Rattle.zone_escape.proofs.Stepped.{can_make, refused, stepped, on_err, entry_same}
 use Rattle.zone_escape.proofs.stepping.share.Goals as goal
 
@@ -48,7 +48,7 @@ pushed c =
     let e = entry_same c.publish.new.local.thread c.thread.result c.args.call.now c.in_ok-copy.copy c.in_ok-answer.answer.reply c.in_ok-answer.answer.copy (c.thread.ensures ∙ made.ok.thread) c.in_ok-copy.ensures made.same in
     stepped c.args.local.now c.publish.new.local c.make.new.local c.args.core.now k c.make.new.heap c.core-2.invariant
     (subst (λ (k : CoreShown). Flushed c.args.local.now c.publish.new.local c.args.core.now k) (sym c.core-2.view_is) c.in_ok-publish.ensures.ok)
-    c.args.call.now c.in_ok-answer.answer.reply c.push_reserved.new.self (keeps_steps k.heap c.make.new.heap made.cycle ∙ sym (c.core-2.invariant.1.owed) ∙ sym c.push_reserved.ensures.owed) (keeps_lists k.heap c.make.new.heap made.cycle c.core-2.invariant.1.lists) made.ok (c.push_reserved.ensures.entries ∙ ap (λ e. k.journal.entries ++ e ∷ []) e) made.ended
+    c.args.call.now c.in_ok-answer.answer.reply c.push_reserved.new.self c.in_range.ensures (keeps_steps k.heap c.make.new.heap made.cycle ∙ sym (c.core-2.invariant.1.owed) ∙ sym c.push_reserved.ensures.owed) (keeps_lists k.heap c.make.new.heap made.cycle c.core-2.invariant.1.lists) made.ok (c.push_reserved.ensures.entries ∙ ap (λ e. k.journal.entries ++ e ∷ []) e) made.ended
 
 pub invariant_of-core-2 : goal.invariant_of-core-2
 invariant_of-core-2 c = (pushed c).0

@@ -8,8 +8,8 @@ use Rattle.zone_escape.proofs.Shown.{misused, part, running, held}
 use Rattle.zone_escape.proofs.WeakLocations.{own_three, own_layout, own_there, own_reads, none_more, no_need}
 use Rattle.zone_escape.proofs.weak.read_own.Goals as goal
 
-pub returns-in-Some : goal.returns-in-Some
-returns-in-Some c =
+pub returns-in-Some-clause-makes : goal.returns-in-Some-clause-makes
+returns-in-Some-clause-makes c =
     let l = c.args.local.now in
     let h = c.args.heap.now in
     let can = c.requires.can in
@@ -32,8 +32,8 @@ receive-requires-clause-called c =
     own_reads h z l.thread c.args.to c.args.from c.args.at c.args.id t.heap.stands t.heap.sound (running l h the_call can z t) holds (own_there l z is c.args.id c.requires.own)
     (own_three z l.thread c.args.from c.args.at the_call class.Weak c.args.id c.layout_of.result.now holds layout (record { holder = refl; word = refl }) ∙ sym c.layout_misuse.ensures ∙ c.in_default.is))
 
-pub returns : goal.returns
-returns c =
+pub returns-clause-makes : goal.returns-clause-makes
+returns-clause-makes c =
     let l = c.args.local.now in
     let h = c.args.heap.now in
     let can = c.requires.can in

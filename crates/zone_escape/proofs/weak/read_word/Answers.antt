@@ -7,6 +7,7 @@ use Rattle.zone_model.specs.declared.call.Loc.TheVariants as loc
 use Rattle.zone_escape.proofs.Making.{runs, can_receive, makes_read}
 use Rattle.zone_escape.proofs.Shown.{misused, part, held, known}
 use Rattle.zone_escape.proofs.WeakLocations.{known_there, null_read, no_need}
+use Rattle.zone_escape.proofs.OpenCycles.{livened, told_keeps}
 use Rattle.zone_escape.proofs.weak.read_word.Goals as goal
 
 pub returns-in_default-clause-ok : goal.returns-in_default-clause-ok
@@ -46,3 +47,9 @@ returns-clause-ok c =
     (λ z t. e.step z c.args.to (loc.Word c.args.from c.args.at) (runs l h the_call c.requires c.thread.result c.thread.ensures z t)
     (ap (option_map (λ id. weak.Word id c.args.at)) (ap (λ u. z.registers u c.args.from) c.thread.ensures ∙ sym (held l h the_call c.requires z t c.args.from (Some c.in-Some.id) (sym c.in-Some.is ∙ c.register.ensures)))))
     c.receive.new.local c.receive.new.heap c.receive.ensures.together c.receive.ensures.local c.receive.ensures.heap
+
+pub returns-clause-cycle : goal.returns-clause-cycle
+returns-clause-cycle c =
+    let h = c.args.heap.now in
+    let k = c.read_weak.new.self in
+    told_keeps h k c.receive.new.heap (livened h k c.in_ok-reply.reply _ _ c.in_ok-reply.ensures.gc) c.receive.ensures.heap

@@ -13,6 +13,7 @@ use Rattle.local_set.specs.LocalSets.{LocalSet}
 use Rattle.zone_escape.proofs.Escaped.{has_escaped, is_too_much}
 use Rattle.zone_escape.proofs.Shown.{misused, made, running, held, known}
 use Rattle.zone_escape.proofs.WeakLocations.{turned}
+use Rattle.zone_escape.proofs.OpenCycles.{assign_keeps, both_keep}
 use Rattle.zone_escape.proofs.weak.set_root.Goals as goal
 
 pub returns-then-not-branch-clause-ok : goal.returns-then-not-branch-clause-ok
@@ -72,3 +73,9 @@ returns-clause-ok c =
       fine = λ w wrong. let no : reply.Block now ≡ reply.Misuse w = sym says ∙ wrong in cc (no);
       stepped = subst (λ u. shared.Stepped k (with_escaped z e.need) u the_call r) thread (c.in-Ok.ensures.step (with_escaped z e.need) (loc.Root c.args.root) c.args.from runs e.shut refl (ap (λ u. z.registers u c.args.from) thread ∙ sym value));
     })
+
+pub returns-clause-cycle : goal.returns-clause-cycle
+returns-clause-cycle c =
+    let g : Shared = c.escape.new.heap in
+    let k : Shared = c.assign_weak.new.self in
+    both_keep c.args.heap.now g k c.in_ok-escape.ensures.cycle (assign_keeps g k (weak.Root c.args.root) c.in-Ok.reply c.in-Ok.ensures.value)

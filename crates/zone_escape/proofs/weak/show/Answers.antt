@@ -14,6 +14,7 @@ use Rattle.local_set.specs.LocalSets.{LocalSet}
 use Rattle.zone_escape.proofs.Escaped.{has_escaped, is_too_much}
 use Rattle.zone_escape.proofs.Shown.{misused, made, running, held, known}
 use Rattle.zone_escape.proofs.WeakLocations.{turned, first_none, shows_value}
+use Rattle.zone_escape.proofs.OpenCycles.{assign_keeps, both_keep}
 use Rattle.zone_escape.proofs.weak.show.Goals as goal
 
 pub returns-then-not-branch-clause-ok : goal.returns-then-not-branch-clause-ok
@@ -90,3 +91,9 @@ returns-clause-ok c =
       stepped = subst (λ u. shared.Stepped k (with_escaped z e.need) u the_call r) thread (c.in-Ok.ensures.step (with_escaped z e.need) (loc.Word c.args.into c.args.at) c.args.from runs e.shut
           (ap (option_map (λ a. weak.Word a c.args.at)) (ap (λ u. z.registers u c.args.into) thread ∙ sym block)) (ap (λ u. z.registers u c.args.from) thread ∙ sym value));
     })
+
+pub returns-clause-cycle : goal.returns-clause-cycle
+returns-clause-cycle c =
+    let g : Shared = c.escape.new.heap in
+    let k : Shared = c.assign_weak.new.self in
+    both_keep c.args.heap.now g k c.in_ok-escape.ensures.cycle (assign_keeps g k (weak.Word c.args.id c.args.at) c.in-Ok.reply c.in-Ok.ensures.value)

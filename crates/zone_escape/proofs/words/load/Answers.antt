@@ -5,6 +5,7 @@ use Rattle.zone_escape.proofs.Exposed.{holder_there}
 use Rattle.shared_heap.proofs.Collecting.{with_own_gc}
 use Rattle.zone_escape.proofs.Making.{runs, in_register, can_receive, makes_read}
 use Rattle.zone_escape.proofs.Stored.{not_within}
+use Rattle.zone_escape.proofs.OpenCycles.{read_keeps}
 use Rattle.zone_escape.proofs.words.load.Goals as goal
 
 pub load-requires : goal.load-requires
@@ -28,3 +29,6 @@ returns-clause-ok c =
     makes_read l h the_call c.requires c.load.new.self c.args.to c.in_ok-reply.reply c.thread.result refl c.thread.ensures e.held (with_own_gc _ _ e.value)
     (λ z t. e.step z c.args.to c.args.from (runs l h the_call c.requires c.thread.result c.thread.ensures z t) (in_register l h the_call c.requires c.thread.result c.thread.ensures c.args.from c.register-holder.result c.register-holder.ensures z t))
     c.receive.new.local c.receive.new.heap c.receive.ensures.together c.receive.ensures.local c.receive.ensures.heap
+
+pub returns-clause-cycle : goal.returns-clause-cycle
+returns-clause-cycle c = read_keeps c.args.heap.now c.load.new.self c.receive.new.heap c.thread.result c.in_ok-reply.reply c.in_ok-reply.ensures.value c.receive.ensures.heap

@@ -15,6 +15,7 @@ use Rattle.zone_escape.proofs.Exposed.{holder_there, holder_out, register_out, o
 use Rattle.zone_escape.proofs.Needs.{some_need}
 use Rattle.zone_escape.proofs.Shown.{is_out, is_shared, known, held, part, misused}
 use Rattle.zone_escape.proofs.Stored.{not_within, register_holds, store_tells, store_still, first_some, first_none, misuse_still, write_holds, write_room, write_options}
+use Rattle.zone_escape.proofs.OpenCycles.{both_keep, livened}
 use Rattle.zone_escape.proofs.words.store.Goals as goal
 
 pub word_misuse-requires : goal.word_misuse-requires
@@ -103,3 +104,9 @@ returns-clause-ok c =
       still = store_still y l.thread c.args.into c.args.at c.args.from r still;
       stepped = e.step y c.args.into c.args.from runs (closed y together.heap.sound) (ap (λ u. z.registers u c.args.into) same ∙ sym into) (ap (λ u. z.registers u c.args.from) same ∙ sym from);
     })
+
+pub returns-clause-cycle : goal.returns-clause-cycle
+returns-clause-cycle c =
+    let g = c.expose.new.heap in
+    let k = c.store.new.self in
+    both_keep c.args.heap.now g k c.in_ok-expose.ensures.cycle (livened g k c.in-Ok.reply _ _ c.in-Ok.ensures.gc)

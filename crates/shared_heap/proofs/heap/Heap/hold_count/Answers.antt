@@ -1,3 +1,5 @@
+use Rattle.std.proofs.Common.{refl}
+use Rattle.shared_heap.proofs.Kept.{heap_alike, times_blocks, times_collect}
 use Rattle.std.proofs.Common.{◌∙◌, ap}
 use Rattle.std.specs.Option.{option_map_or}
 use Rattle.std.specs.FinMap.{get}
@@ -13,3 +15,10 @@ returns-clause-held c = on_ok c.set_times.result (λ is.
     rw (← c.self.view_is) (λ u q.
     ap (λ (b : Table). option_map_or (λ (k : Holds). times k u) (get b.holds q) 0) is
     ∙ held_holding (the_view c.self.inside) c.args.t c.args.id c.args.n (c.set_times.ensures.keys ∙ (rw (← c.self.view_is) at c.requires.given)) u q)) c.set_times.ensures.ok
+
+pub invariant_of-self : goal.invariant_of-self
+invariant_of-self c =
+    let t = c.self.inside.tables in
+    let o = c.self.inside.open_cycle in
+    heap_alike c.self.inside (record t { blocks = c.set_times.new.self }) o c.self.invariant (times_blocks t o c.set_times.new.self c.set_times.result _ c.set_times.ensures.ok c.set_times.ensures.err) refl
+    (times_collect t o c.set_times.new.self c.set_times.result _ c.set_times.ensures.ok c.set_times.ensures.err c.self.invariant.collects)

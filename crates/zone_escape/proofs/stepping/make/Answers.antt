@@ -3,7 +3,7 @@ use Rattle.zone_model.specs.declared.entry.Reply.{Reply}
 use Rattle.zone_model.specs.Bare.{bare_reply}
 use Rattle.zone_escape.specs.Making.{Makes}
 use Rattle.zone_escape.proofs.Stepped.{replied_plain, still_running, not_leave}
-use Rattle.zone_escape.proofs.stepping.make_any.Goals as goal
+use Rattle.zone_escape.proofs.stepping.make.Goals as goal
 
 pub twice-requires : goal.twice-requires
 twice-requires c = replied_plain c.args.local.now c.make_plain.new.local c.args.heap.now c.make_plain.new.heap c.args.call.now c.in_ok-reply.reply c.requires.can c.requires.built (not_leave c.args.call.now c.in_default.not-Leave) c.in_ok-reply.ensures.ok
@@ -20,4 +20,5 @@ returns c =
       same = ap bare_reply (c.twice.ensures.copy ∙ sym c.twice.ensures.reply);
       ended = still_running l m h k c.args.call.now c.in_ok-reply.reply c.requires.can c.requires.built stays c.in_ok-reply.ensures.ok ∙ sym stays;
       err = tt;
+      cycle = c.in_ok-reply.ensures.cycle;
     }

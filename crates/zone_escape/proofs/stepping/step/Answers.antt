@@ -1,1 +1,0 @@
-use Rattle.zone_escape.proofs.stepping.step.Goals as goal
