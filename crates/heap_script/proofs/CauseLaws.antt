@@ -1,19 +1,18 @@
 -- What a call line that is refused has, and what it has not
 use Rattle.std.proofs.Common.{◌≡◌, ℕ, inl, inr, List, [], ◌∷◌, Option, Some, None, Result, Ok, Err, refl, sym, ap, ◌∙◌, subst}
 use Rattle.az_words.specs.Laws.{NumbersAreRead}
-use Rattle.call_words.specs.Names.{name_text}
+use Rattle.call_words.specs.Names.{name_text, name_of}
 use Rattle.call_words.specs.Laws.{NamesAreRead, ArgumentsAreRead}
 use Rattle.call_words.specs.Reading.Words.{thread_of}
 use Rattle.call_words.specs.Reading.Calls.{next_as, act_at}
 use Rattle.heap_script.specs.declared.cause.Cause.{Cause}
 use Rattle.heap_script.specs.declared.cause.Cause.TheVariants.{NoThread, NoCall, WrongArgument, TooManyArguments}
 use Rattle.heap_script.specs.declared.line.Line.{Line}
-use Rattle.heap_script.specs.Built.{most_actions}
 use Rattle.heap_script.specs.Lines.{LineAt}
 use Rattle.heap_script.specs.Refusals.{HasThread, HasCall, LineCause}
-use Rattle.heap_script.specs.Reading.Scripts.{◌>>=◌, or_cause, no_more, next_built, line_at, line_of}
+use Rattle.heap_script.specs.Reading.Scripts.{◌>>=◌, or_cause, no_more, line_at, line_of}
 use Rattle.heap_script.proofs.Steps.{or_ok, or_err, bind_err, next_some, next_none, ok_is_not_err, whole_ok, whole_err}
-use Rattle.heap_script.proofs.LineLaws.{built_ok, built_from, line_at_ok, line_at_from}
+use Rattle.heap_script.proofs.LineLaws.{named_ok, named_from, line_at_ok, line_at_from}
 
 -- what each cause says of the words of a call line
 Says : List (List ℕ) → Cause → Type 0
@@ -43,18 +42,18 @@ at_says numbers names arguments words d e =
       | inr a ↦
           (let t = next_some thread_of words a.0 (or_ok NoThread (next_as thread_of words) a.0 a.1) in
           let number = (numbers 1 16 t.0 a.0.0).0 t.2 in
-          elim (bind_err (or_cause NoCall (next_built a.0.1)) _ d a.2) [
+          elim (bind_err (or_cause NoCall (next_as name_of a.0.1)) _ d a.2) [
             | inl h ↦
-                (let p = or_err NoCall d (next_built a.0.1) h in
+                (let p = or_err NoCall d (next_as name_of a.0.1) h in
                 said words NoCall d p.0 (
                   (t.0, a.0.1, a.0.0, t.1, number),
-                  λ has. is_none_and_some p.1 (ap next_built (tail_same t.0 has.0 a.0.1 (name_text has.2 ∷ has.1) (sym t.1 ∙ has.4)) ∙ built_from names has.2 has.1 has.6),
+                  λ has. is_none_and_some p.1 (ap (next_as name_of) (tail_same t.0 has.0 a.0.1 (name_text has.2 ∷ has.1) (sym t.1 ∙ has.4)) ∙ named_from names has.2 has.1),
                 ))
             | inr b ↦
-                (let named = built_ok names a.0.1 b.0 (or_ok NoCall (next_built a.0.1) b.0 b.1) in
-                let has : HasCall words = (t.0, b.0.1, b.0.0, a.0.0, t.1 ∙ ap (λ ws. t.0 ∷ ws) named.0, number, named.1) in
-                elim (bind_err (or_cause WrongArgument (act_at most_actions b.0.0 b.0.1)) _ d b.2) [
-                  | inl h ↦ said words WrongArgument d (or_err WrongArgument d (act_at most_actions b.0.0 b.0.1) h).0 has
+                (let named = named_ok names a.0.1 b.0 (or_ok NoCall (next_as name_of a.0.1) b.0 b.1) in
+                let has : HasCall words = (t.0, b.0.1, b.0.0, a.0.0, t.1 ∙ ap (λ ws. t.0 ∷ ws) named, number) in
+                elim (bind_err (or_cause WrongArgument (act_at 8 b.0.0 b.0.1)) _ d b.2) [
+                  | inl h ↦ said words WrongArgument d (or_err WrongArgument d (act_at 8 b.0.0 b.0.1) h).0 has
                   | inr k ↦ absurd (ok_is_not_err _ d k.2)
                 ])
           ])
@@ -86,7 +85,7 @@ call_has_thread : (words : List (List ℕ)) → HasCall words → HasThread word
 call_has_thread words h = (h.0, name_text h.2 ∷ h.1, h.3, h.4, h.5)
 
 line_has_call : (words : List (List ℕ)) (line : Line) (left : List (List ℕ)) → LineAt words line left → HasCall words
-line_has_call words line left h = (h.first, h.others, h.name, line.thread, h.spelled, h.thread, h.built)
+line_has_call words line left h = (h.first, h.others, h.name, line.thread, h.spelled, h.thread)
 
 -- what was read, and what that says
 Outcome : List (List ℕ) → Result Line Cause → Type 0

@@ -1,6 +1,5 @@
 -- What is known of a script
-use Rattle.std.proofs.Common.{◌≡◌, ℕ, ◌≤◌, Bool, true, false, List, [], ◌∷◌, sym, ap, subst, ◌∙◌, arith}
-use Rattle.std.proofs.lemmas.Bool.{and_parts}
+use Rattle.std.proofs.Common.{ℕ, ◌≤◌, Bool, false, List, [], ◌∷◌, sym, subst, arith}
 use Rattle.std.proofs.lemmas.List.Elements.{All-nil, All-cons}
 use Rattle.az_base.specs.declared.options.Options.{Options}
 use Rattle.az_base.specs.OptionRanges.{usual_options, IsValid}
@@ -9,11 +8,8 @@ use Rattle.call_words.specs.declared.keywords.CollectName.{CollectName}
 use Rattle.call_words.specs.declared.keywords.CollectName.TheVariants as kind
 use Rattle.call_words.specs.declared.names.CallName.{CallName}
 use Rattle.call_words.specs.declared.names.CallName.TheVariants as names
-use Rattle.call_words.specs.Names.{collect_text}
 use Rattle.call_words.specs.Arguments.{AllSaid, arguments_of, collect_act, act_of}
-use Rattle.call_words.specs.Grammar.{OneWord, ArgumentsAt}
-use Rattle.call_words.specs.Laws.{CollectNamesAreRead}
-use Rattle.call_words.specs.Ranges.{IsSpelledAct}
+use Rattle.call_words.specs.Ranges.{IsSpelledAct, IsNamed}
 use Rattle.call_words.proofs.Spelled.{act_spelled}
 use Rattle.heap_script.specs.declared.entries.Entry.{Entry}
 use Rattle.heap_script.specs.declared.entries.Entry.TheVariants as entry
@@ -22,11 +18,10 @@ use Rattle.heap_script.specs.declared.script.Script.{Script}
 use Rattle.call_words.specs.declared.options.OptionName.{OptionName}
 use Rattle.call_words.specs.declared.options.OptionName.TheVariants as option
 use Rattle.heap_script.specs.declared.setting.Setting.{Setting}
-use Rattle.heap_script.specs.Built.{is_built_kind, is_built, is_built_kind_or_none, begins_built, is_built_before, most_actions, Holds}
 use Rattle.call_words.specs.Options.{least}
 use Rattle.heap_script.specs.Settings.{largest, setting_to, with_setting}
 use Rattle.heap_script.specs.Lines.{LineAt, SettingAt, IsEntry, called_after, AreEntries}
-use Rattle.heap_script.specs.Scripts.{with_entry, options_after, calls_of, IsScript, AllThreads, IsThere, IsBuilt, AllBuilt, AllSpelled, CanBePlayed}
+use Rattle.heap_script.specs.Scripts.{with_entry, options_after, calls_of, IsScript, AllThreads, IsThere, AllNamed, AllSpelled, CanBePlayed}
 
 -- each call line is of a thread that there is
 threads_of : (called : Bool) (text : List (List ℕ)) (entries : List Entry) → AreEntries called text entries → AllThreads (calls_of entries)
@@ -42,58 +37,47 @@ threads_of called (line ∷ text) (entry.Call call ∷ entries) h =
 all_threads : (bytes : List ℕ) (script : Script) → IsScript bytes script → AllThreads script.lines
 all_threads bytes script h = subst AllThreads (sym h.lines) (threads_of false _ h.entries h.said.says)
 
--- a kind of collection that may stand after `collect` is built
-holds : (b : Bool) → b ≡ true → Holds b
-holds true e = tt
-holds false e = cc
+-- what a name of scripts asks for
+kind_named : (kind : CollectName) → IsNamed (collect_act kind)
+kind_named kind.Local = tt
+kind_named kind.Young = tt
+kind_named kind.Full = tt
 
-kind_built : (kinds : CollectNamesAreRead) → (kind : CollectName) (words left : List (List ℕ)) → begins_built words ≡ true → OneWord (λ word kind. word ≡ collect_text kind) words kind left → Holds (is_built_kind kind)
-kind_built kinds kind words left is h =
-    let named = (kinds h.0 kind).1 h.2 in
-    holds (is_built_kind kind) (sym (ap is_built_kind_or_none named) ∙ sym (ap begins_built h.1) ∙ is)
+act_of_named : (name : CallName) (said : AllSaid (arguments_of name)) → IsNamed (act_of name said)
+act_of_named names.New (to, (memory, end)) = tt
+act_of_named names.Load (to, (from, (at, end))) = tt
+act_of_named names.Store (into, (at, (from, end))) = tt
+act_of_named names.Put (into, (at, (number, end))) = tt
+act_of_named names.Get (from, (at, end)) = tt
+act_of_named names.Copy (to, (from, end)) = tt
+act_of_named names.Drop (reg, end) = tt
+act_of_named names.Collect (kind, end) = kind_named kind
+act_of_named names.SetRoot (root, (from, end)) = tt
+act_of_named names.GetRoot (to, (root, end)) = tt
+act_of_named names.Retain (reg, end) = tt
+act_of_named names.Release (reg, end) = tt
+act_of_named names.Count (reg, end) = tt
+act_of_named names.Take (to, (id, end)) = tt
+act_of_named names.SetAssoc (object, (key, (value, end))) = tt
+act_of_named names.GetAssoc (to, (object, (key, end))) = tt
+act_of_named names.SetWeak (loc, (from, end)) = tt
+act_of_named names.ReadWeak (to, (loc, end)) = tt
+act_of_named names.Stats end = tt
 
-act_built : (kind : CollectName) → Holds (is_built_kind kind) → IsBuilt (collect_act kind)
-act_built kind.Local h = h
-act_built kind.Young h = h
-act_built kind.Full h = h
+line_named : (words : List (List ℕ)) (line : Line) (left : List (List ℕ)) → LineAt words line left → IsNamed line.act
+line_named words line left h = subst IsNamed (sym h.asks.asked) (act_of_named h.name h.asks.said)
 
--- what a name that is built asks for is built
-act_of_built : (kinds : CollectNamesAreRead) → (name : CallName) (said : AllSaid (arguments_of name)) (words left : List (List ℕ)) → is_built_before name words ≡ true
-    → ArgumentsAt most_actions (arguments_of name) words said left → IsBuilt (act_of name said)
-act_of_built kinds names.New (to, (memory, end)) words left is h = tt
-act_of_built kinds names.Load (to, (from, (at, end))) words left is h = tt
-act_of_built kinds names.Store (into, (at, (from, end))) words left is h = tt
-act_of_built kinds names.Put (into, (at, (number, end))) words left is h = tt
-act_of_built kinds names.Get (from, (at, end)) words left is h = tt
-act_of_built kinds names.Copy (to, (from, end)) words left is h = tt
-act_of_built kinds names.Drop (reg, end) words left is h = tt
-act_of_built kinds names.Collect (kind, end) words left is h = act_built kind (kind_built kinds kind words h.0 (and_parts (is_built names.Collect) (begins_built words) is).1 h.1)
-act_of_built kinds names.SetRoot (root, (from, end)) words left is h = tt
-act_of_built kinds names.GetRoot (to, (root, end)) words left is h = tt
-act_of_built kinds names.Retain (reg, end) words left is h = tt
-act_of_built kinds names.Release (reg, end) words left is h = tt
-act_of_built kinds names.Count (reg, end) words left is h = tt
-act_of_built kinds names.Take (to, (id, end)) words left is h = tt
-act_of_built kinds names.SetAssoc (object, (key, (value, end))) words left is h = tt
-act_of_built kinds names.GetAssoc (to, (object, (key, end))) words left is h = tt
-act_of_built kinds names.SetWeak (loc, (from, end)) words left is h = tt
-act_of_built kinds names.ReadWeak (to, (loc, end)) words left is h = tt
-act_of_built kinds names.Stats end words left is h = tt
+named_of : (called : Bool) (text : List (List ℕ)) (entries : List Entry) → AreEntries called text entries → AllNamed (calls_of entries)
+named_of called [] [] h = All-nil (λ l. IsNamed l.act)
+named_of called [] (e ∷ entries) h = absurd h
+named_of called (line ∷ text) [] h = absurd h
+named_of called (line ∷ text) (entry.Nothing ∷ entries) h = named_of (called_after called entry.Nothing) text entries h.1
+named_of called (line ∷ text) (entry.Set set ∷ entries) h = named_of (called_after called (entry.Set set)) text entries h.1
+named_of called (line ∷ text) (entry.Call call ∷ entries) h =
+    All-cons (λ l. IsNamed l.act) call (calls_of entries) (line_named (words_of line) call [] h.0.1) (named_of (called_after called (entry.Call call)) text entries h.1)
 
-line_built : (kinds : CollectNamesAreRead) → (words : List (List ℕ)) (line : Line) (left : List (List ℕ)) → LineAt words line left → IsBuilt line.act
-line_built kinds words line left h = subst IsBuilt (sym h.asks.asked) (act_of_built kinds h.name h.asks.said h.others left h.built h.asks.arguments)
-
-built_of : (kinds : CollectNamesAreRead) → (called : Bool) (text : List (List ℕ)) (entries : List Entry) → AreEntries called text entries → AllBuilt (calls_of entries)
-built_of kinds called [] [] h = All-nil (λ l. IsBuilt l.act)
-built_of kinds called [] (e ∷ entries) h = absurd h
-built_of kinds called (line ∷ text) [] h = absurd h
-built_of kinds called (line ∷ text) (entry.Nothing ∷ entries) h = built_of kinds (called_after called entry.Nothing) text entries h.1
-built_of kinds called (line ∷ text) (entry.Set set ∷ entries) h = built_of kinds (called_after called (entry.Set set)) text entries h.1
-built_of kinds called (line ∷ text) (entry.Call call ∷ entries) h =
-    All-cons (λ l. IsBuilt l.act) call (calls_of entries) (line_built kinds (words_of line) call [] h.0.1) (built_of kinds (called_after called (entry.Call call)) text entries h.1)
-
-all_built : (kinds : CollectNamesAreRead) → (bytes : List ℕ) (script : Script) → IsScript bytes script → AllBuilt script.lines
-all_built kinds bytes script h = subst AllBuilt (sym h.lines) (built_of kinds false _ h.entries h.said.says)
+all_named : (bytes : List ℕ) (script : Script) → IsScript bytes script → AllNamed script.lines
+all_named bytes script h = subst AllNamed (sym h.lines) (named_of false _ h.entries h.said.says)
 
 -- each call line asks for what the grammar has
 spelled_of : (called : Bool) (text : List (List ℕ)) (entries : List Entry) → AreEntries called text entries → AllSpelled (calls_of entries)
@@ -104,7 +88,7 @@ spelled_of called (line ∷ text) (entry.Nothing ∷ entries) h = spelled_of (ca
 spelled_of called (line ∷ text) (entry.Set set ∷ entries) h = spelled_of (called_after called (entry.Set set)) text entries h.1
 spelled_of called (line ∷ text) (entry.Call call ∷ entries) h =
     let at = h.0.1 in
-    All-cons (λ l. IsSpelledAct l.act) call (calls_of entries) (act_spelled most_actions at.name at.others call.act [] at.asks) (spelled_of (called_after called (entry.Call call)) text entries h.1)
+    All-cons (λ l. IsSpelledAct l.act) call (calls_of entries) (act_spelled 8 at.name at.others call.act [] at.asks) (spelled_of (called_after called (entry.Call call)) text entries h.1)
 
 all_spelled : (bytes : List ℕ) (script : Script) → IsScript bytes script → AllSpelled script.lines
 all_spelled bytes script h = subst AllSpelled (sym h.lines) (spelled_of false _ h.entries h.said.says)
@@ -138,5 +122,5 @@ usual_valid = record { heap = (omega arith, omega arith); «local» = omega arit
 valid_options : (bytes : List ℕ) (script : Script) → IsScript bytes script → IsValid script.options
 valid_options bytes script h = subst IsValid (sym h.options) (valid_of false _ h.entries usual_options h.said.says usual_valid)
 
-pub can_be_played : (kinds : CollectNamesAreRead) → (bytes : List ℕ) (script : Script) → IsScript bytes script → CanBePlayed script
-can_be_played kinds bytes script h = record { options = valid_options bytes script h; threads = all_threads bytes script h; built = all_built kinds bytes script h; spelled = all_spelled bytes script h }
+pub can_be_played : (bytes : List ℕ) (script : Script) → IsScript bytes script → CanBePlayed script
+can_be_played bytes script h = record { options = valid_options bytes script h; threads = all_threads bytes script h; named = all_named bytes script h; spelled = all_spelled bytes script h }

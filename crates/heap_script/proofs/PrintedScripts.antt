@@ -20,15 +20,14 @@ use Rattle.call_words.specs.declared.options.OptionName.{OptionName}
 use Rattle.call_words.specs.declared.options.OptionName.TheVariants as option
 use Rattle.call_words.specs.Spacing.{spaced, fed_line, ArePlain}
 use Rattle.call_words.specs.Options.{least, option_words, option_lines, options_lines}
-use Rattle.call_words.specs.Ranges.{HasFewActions}
+use Rattle.call_words.specs.Ranges.{IsNamed}
 use Rattle.call_words.specs.Words.{act_words}
 use Rattle.call_words.proofs.PlainWords.{words_are_cut}
 use Rattle.call_words.proofs.OptionNames.{option_plain}
 use Rattle.call_words.proofs.WrittenNumbers.{decimal_in, decimal_plain, decimal_digits}
-use Rattle.heap_script.specs.Built.{most_actions}
 use Rattle.heap_script.specs.Settings.{largest, setting_to, with_setting}
 use Rattle.heap_script.specs.Lines.{IsFit, is_skipped, IsLine, IsEntry, AreEntries, SayLines}
-use Rattle.heap_script.specs.Scripts.{options_after, calls_of, IsScript, IsBuilt}
+use Rattle.heap_script.specs.Scripts.{options_after, calls_of, IsScript}
 use Rattle.heap_script.specs.Printed.{line_words, script_lines, script_text, LineFits, KeepsLimits}
 use Rattle.heap_script.proofs.PrintedLines.{LinesArePlain, spaced_text, lines_are_cut, lines_together}
 use Rattle.heap_script.proofs.PrintedActs.{Asked, asked}
@@ -65,7 +64,6 @@ call_entry called line h =
       others = h.act.others;
       spelled = ap (λ words. decimal line.thread ∷ words) h.act.spelled;
       thread = decimal_in 1 16 line.thread h.fits.0.0 h.fits.0.1 (omega arith);
-      built = h.act.built;
       asks = h.act.asks;
     } in
     subst (λ words. IsEntry called words (entry.Call line)) (sym (words_are_cut (line_words line) (line_plain line h)))
@@ -186,9 +184,9 @@ options_set o lines =
 
 -- the whole script
 
-all_printed : (lines : List Line) → AllByRecursion LineFits lines → AllByRecursion (λ (line : Line). IsBuilt line.act) lines → AllByRecursion (λ (line : Line). HasFewActions most_actions line.act) lines → AllByRecursion Printed lines
-all_printed [] f b a = tt
-all_printed (line ∷ lines) f b a = (record { fits = f.0; act = asked line.act f.0.1 b.0 a.0 }, all_printed lines f.1 b.1 a.1)
+all_printed : (lines : List Line) → AllByRecursion LineFits lines → AllByRecursion (λ (line : Line). IsNamed line.act) lines → AllByRecursion Printed lines
+all_printed [] f named = tt
+all_printed (line ∷ lines) f named = (record { fits = f.0; act = asked line.act f.0.1 named.0 }, all_printed lines f.1 named.1)
 
 lines_fit : (lines : List (List (List ℕ))) → LinesArePlain lines → AllByRecursion (λ words. length (spaced words) ≤ 8192) lines → AllByRecursion (λ words. IsFit (spaced words)) lines
 lines_fit [] plain short = tt
@@ -203,7 +201,7 @@ text_is script =
 pub printed_is : (script : Script) → KeepsLimits script → IsScript (script_text script) script
 printed_is script keeps =
     let calls = map entry.Call script.lines in
-    let printed : AllByRecursion Printed script.lines = all_printed script.lines (recursion_from_All LineFits script.lines keeps.numbers) (recursion_from_All (λ (line : Line). IsBuilt line.act) script.lines keeps.built) (recursion_from_All (λ (line : Line). HasFewActions most_actions line.act) script.lines keeps.actions) in
+    let printed : AllByRecursion Printed script.lines = all_printed script.lines (recursion_from_All LineFits script.lines keeps.numbers) (recursion_from_All (λ (line : Line). IsNamed line.act) script.lines keeps.named) in
     let before = before_is script.options (map line_words script.lines) in
     let none = before_is script.options [] ∙ refl in
     let plain : LinesArePlain (script_lines script) = lines_together (options_lines script.options) (map line_words script.lines) (subst LinesArePlain (sym none ∙ append-nil (options_lines script.options)) (options_plain script.options keeps.options)) (calls_plain script.lines printed) in

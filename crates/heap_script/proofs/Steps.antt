@@ -5,11 +5,6 @@ use Rattle.heap_script.specs.declared.cause.Cause.TheVariants.{TooManyArguments}
 use Rattle.call_words.specs.Reading.Calls.{with_rest, next_as}
 use Rattle.heap_script.specs.Reading.Scripts.{◌>>=◌, or_cause, no_more, whole}
 
--- a choice that gave a value went this way
-pub chosen : {A : Type 0} (b : Bool) (o : Option A) (x : A) → cond b o None ≡ Some x → (b ≡ true) × (o ≡ Some x)
-chosen true o x e = (refl, e)
-chosen false o x e = cc
-
 -- a choice that gave a value went past the error
 pub passed : {A : Type 0} (b : Bool) (cause : Cause) (r : Result A Cause) (x : A) → cond b (Err cause) r ≡ Ok x → (b ≡ false) × (r ≡ Ok x)
 passed true cause r x e = cc

@@ -1,4 +1,3 @@
-pub mod Built
 pub mod Settings
 pub mod Lines
 pub mod Causes

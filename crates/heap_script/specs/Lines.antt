@@ -12,7 +12,6 @@ use Rattle.heap_script.specs.declared.entries.Entry.TheVariants as entry
 use Rattle.heap_script.specs.declared.line.Line.{Line}
 use Rattle.call_words.specs.declared.options.OptionName.{OptionName}
 use Rattle.heap_script.specs.declared.setting.Setting.{Setting}
-use Rattle.heap_script.specs.Built.{is_built_before, most_actions}
 use Rattle.call_words.specs.Options.{option_text, least}
 use Rattle.heap_script.specs.Settings.{largest, setting_to}
 
@@ -27,15 +26,14 @@ is_skipped [] = true
 is_skipped ([] ∷ words) = false
 is_skipped ((c ∷ word) ∷ words) = c == 35
 
--- a call line: a thread, a call that is built, and its arguments; these words are left
+-- a call line: a thread, a call, and its arguments; these words are left
 pub record LineAt (words : List (List ℕ)) (line : Line) (left : List (List ℕ)) : Type 0 where
   pub first : List ℕ
   pub name : CallName
   pub others : List (List ℕ)
   pub spelled : words ≡ first ∷ name_text name ∷ others
   pub thread : IsNumberIn 1 MOST_THREADS first line.thread
-  pub built : is_built_before name others ≡ true
-  pub asks : AsksAt most_actions name others line.act left
+  pub asks : AsksAt 8 name others line.act left
 
 -- a call line, and no more
 abbrev pub IsLine : List (List ℕ) → Line → Type 0

@@ -5,12 +5,11 @@ use Rattle.std.specs.Fmt.{decimal}
 use Rattle.az_base.specs.OptionRanges.{IsValid}
 use Rattle.call_words.specs.Spacing.{spaced, fed_line}
 use Rattle.call_words.specs.Options.{options_lines}
-use Rattle.call_words.specs.Ranges.{IsThread, ActFits, HasFewActions}
+use Rattle.call_words.specs.Ranges.{IsThread, ActFits}
 use Rattle.call_words.specs.Words.{act_words}
 use Rattle.heap_script.specs.declared.line.Line.{Line}
 use Rattle.heap_script.specs.declared.script.Script.{Script}
-use Rattle.heap_script.specs.Built.{most_actions}
-use Rattle.heap_script.specs.Scripts.{IsScript, IsBuilt}
+use Rattle.heap_script.specs.Scripts.{IsScript, AllNamed}
 
 -- a call line
 abbrev pub line_words : Line → List (List ℕ)
@@ -33,8 +32,7 @@ LineFits line = IsThread line.thread × ActFits line.act
 pub record KeepsLimits (script : Script) : Type 0 where
   pub options : IsValid script.options
   pub numbers : All LineFits script.lines
-  pub built : All (λ line. IsBuilt line.act) script.lines
-  pub actions : All (λ line. HasFewActions most_actions line.act) script.lines
+  pub named : AllNamed script.lines
   pub few : length (script_lines script) ≤ 65536
   pub short : All (λ words. length (spaced words) ≤ 8192) (script_lines script)
 

@@ -11,7 +11,6 @@ use Rattle.heap_script.specs.declared.cause.Cause.TheVariants.{NotText, LineTooL
 use Rattle.heap_script.specs.declared.line.Line.{Line}
 use Rattle.call_words.specs.declared.options.OptionName.{OptionName}
 use Rattle.heap_script.specs.declared.setting.Setting.{Setting}
-use Rattle.heap_script.specs.Built.{is_built_before}
 use Rattle.call_words.specs.Options.{option_text}
 use Rattle.heap_script.specs.Lines.{IsFit, is_skipped, LineAt, SettingAt}
 
@@ -19,10 +18,10 @@ use Rattle.heap_script.specs.Lines.{IsFit, is_skipped, LineAt, SettingAt}
 abbrev pub HasThread : List (List ℕ) → Type 0
 HasThread words = (first : List ℕ) × (others : List (List ℕ)) × (n : ℕ) × (words ≡ first ∷ others) × IsNumberIn 1 MOST_THREADS first n
 
--- the first word is a thread, and the second one names a call that is built
+-- the first word is a thread, and the second one names a call
 abbrev pub HasCall : List (List ℕ) → Type 0
 HasCall words =
-    (first : List ℕ) × (others : List (List ℕ)) × (name : CallName) × (n : ℕ) × (words ≡ first ∷ name_text name ∷ others) × IsNumberIn 1 MOST_THREADS first n × (is_built_before name others ≡ true)
+    (first : List ℕ) × (others : List (List ℕ)) × (name : CallName) × (n : ℕ) × (words ≡ first ∷ name_text name ∷ others) × IsNumberIn 1 MOST_THREADS first n
 
 -- what a call line lacks where it has this cause
 abbrev pub LineCause : List (List ℕ) → Cause → Type 0

@@ -1,22 +1,16 @@
 -- What a script is, what refuses a text that is none, and what is known of a script
 use Rattle.std.specs.Prelude.{◌≡◌, ◌≤◌, ◌+◌, ℕ, Bool, true, false, List, [], ◌∷◌, ◌++◌, length, All, Result, Ok, Err}
-use Rattle.az_base.specs.declared.action.Mode.TheVariants as mode
 use Rattle.az_base.specs.declared.numbers.TheConstants.{MOST_THREADS}
 use Rattle.az_base.specs.declared.options.Options.{Options}
 use Rattle.az_base.specs.OptionRanges.{usual_options, IsValid}
 use Rattle.az_words.specs.Lines.{lines_of}
-use Rattle.zone_model.specs.declared.act.Act.{Act}
-use Rattle.zone_model.specs.declared.act.Act.TheVariants as act
-use Rattle.zone_model.specs.declared.call.Call.TheVariants as call
-use Rattle.call_words.specs.declared.keywords.CollectName.TheVariants as kind
-use Rattle.call_words.specs.Ranges.{IsSpelledAct}
+use Rattle.call_words.specs.Ranges.{IsSpelledAct, IsNamed}
 use Rattle.heap_script.specs.declared.entries.Entry.{Entry}
 use Rattle.heap_script.specs.declared.entries.Entry.TheVariants as entry
 use Rattle.heap_script.specs.declared.line.Line.{Line}
 use Rattle.heap_script.specs.declared.script.Script.{Script}
 use Rattle.heap_script.specs.declared.cause.ScriptErr.{ScriptErr}
 use Rattle.heap_script.specs.declared.cause.ScriptErr.TheVariants as errors
-use Rattle.heap_script.specs.Built.{is_built_kind, Holds}
 use Rattle.heap_script.specs.Settings.{with_setting}
 use Rattle.heap_script.specs.Lines.{SayLines}
 use Rattle.heap_script.specs.Refusals.{Refusal, HasCause}
@@ -90,42 +84,17 @@ IsThere line = (1 ≤ line.thread) × (line.thread ≤ MOST_THREADS)
 abbrev pub AllThreads : List Line → Type 0
 AllThreads lines = All IsThere lines
 
--- what the names that are built can ask for
-abbrev pub IsBuilt : Act → Type 0
-IsBuilt (act.Call (call.New to layout actions)) = Unit {0}
-IsBuilt (act.Call (call.Load to from at)) = Unit {0}
-IsBuilt (act.Call (call.Store into at from)) = Unit {0}
-IsBuilt (act.Call (call.Put into at number)) = Unit {0}
-IsBuilt (act.Call (call.Get from at)) = Unit {0}
-IsBuilt (act.Call (call.Copy to from)) = Unit {0}
-IsBuilt (act.Call (call.DropReg reg)) = Unit {0}
-IsBuilt (act.Call (call.SetRoot root from)) = Unit {0}
-IsBuilt (act.Call (call.GetRoot to root)) = Unit {0}
-IsBuilt (act.Call (call.Retain reg)) = Unit {0}
-IsBuilt (act.Call (call.Release reg)) = Unit {0}
-IsBuilt (act.Call (call.Count reg)) = Unit {0}
-IsBuilt (act.Call (call.Take to id)) = Unit {0}
-IsBuilt (act.Call (call.SetAssoc object key value)) = Unit {0}
-IsBuilt (act.Call (call.GetAssoc to object key)) = Unit {0}
-IsBuilt (act.Call (call.SetWeak loc from)) = Unit {0}
-IsBuilt (act.Call (call.ReadWeak to loc)) = Unit {0}
-IsBuilt (act.Call call.Stats) = Unit {0}
-IsBuilt (act.Call call.CollectLocal) = Holds (is_built_kind kind.Local)
-IsBuilt (act.Collect mode.Young) = Holds (is_built_kind kind.Young)
-IsBuilt (act.Collect mode.Full) = Holds (is_built_kind kind.Full)
-IsBuilt _ = ⊥
-
--- each line asks for what is built
-abbrev pub AllBuilt : List Line → Type 0
-AllBuilt lines = All (λ line. IsBuilt line.act) lines
+-- each line asks for what scripts have a name for: no step of a collection by itself, and no end of a thread
+abbrev pub AllNamed : List Line → Type 0
+AllNamed lines = All (λ line. IsNamed line.act) lines
 
 -- each line asks for what the grammar has: a layout that blocks may have, and actions of objects alone
 abbrev pub AllSpelled : List Line → Type 0
 AllSpelled lines = All (λ line. IsSpelledAct line.act) lines
 
--- the options are valid, and each line asks a thread that there is for what is built, and for what the grammar has
+-- the options are valid, and each line asks a thread that there is for what scripts have a name for, as the grammar has it
 pub record CanBePlayed (script : Script) : Type 0 where
   pub options : IsValid script.options
   pub threads : AllThreads script.lines
-  pub built : AllBuilt script.lines
+  pub named : AllNamed script.lines
   pub spelled : AllSpelled script.lines

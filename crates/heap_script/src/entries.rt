@@ -2,16 +2,20 @@
 ghost use Rattle.std.specs.Prelude.{◌≡◌, ◌≤◌, true, IfOk, IfSome, IfNone, Some, None};
 ghost use Rattle.std.specs.Str.{IsUtf8, is_utf8};
 ghost use Rattle.az_words.specs.Words.{words_of};
+ghost use Rattle.call_words.specs.Names.{name_of};
+ghost use Rattle.call_words.specs.Reading.Calls.{Reads, next_as};
 ghost use Rattle.heap_script.specs.Lines.{is_skipped};
 ghost use Rattle.heap_script.specs.Refusals.{after_option};
 ghost use Rattle.heap_script.specs.Reading.Scripts.{Gives, no_more, line_of, setting_of, entry_by, entry_of};
 
-use crate::built::{MOST_ACTIONS, next_built};
 use crate::cause::{Cause, LineErr};
 use crate::line::Line;
 use crate::setting::Setting;
 use az_words::{Words, is_text, is_word, next_word};
-use call_words::{OptionName, arguments, next_number, next_option, next_thread, next_wide_number};
+use call_words::{
+    CallName, OptionName, arguments, call_name, next_number, next_option, next_thread,
+    next_wide_number,
+};
 use std::alloc::Global;
 
 /// The most bytes of a line, its line feed not counted.
@@ -19,6 +23,9 @@ const MOST_BYTES: usize = 8192;
 
 /// The most lines of a script.
 const MOST_LINES: u32 = 65_536;
+
+/// The most finaliser actions of an object.
+const MOST_ACTIONS: usize = 8;
 
 /// What a line says: nothing where it is skipped, an option, or a call.
 #[derive(Drop)]
@@ -39,6 +46,15 @@ fn no_more(words: &mut Words) -> Result<(), Cause>
     }
 }
 
+/// The call that the first word names.
+#[tactic(auto, unfolding(call_words::specs::Reading::Calls::next_as))]
+fn next_name(words: &mut Words) -> Option<CallName>
+    ensures { Reads result words.new (next_as name_of words.old) }
+{
+    let word = words.next()?;
+    call_name(word)
+}
+
 /// A call line.
 #[tactic(auto, unfolding(crate::specs::Reading::Scripts::line_of, crate::specs::Reading::Scripts::line_at))]
 fn call_line(alloc: Global, line: &[u8]) -> Result<Line, LineErr>
@@ -46,7 +62,7 @@ fn call_line(alloc: Global, line: &[u8]) -> Result<Line, LineErr>
 {
     let mut words = Words::new(line);
     let thread = next_thread(&mut words).ok_or(Cause::NoThread)?;
-    let name = next_built(&mut words).ok_or(Cause::NoCall)?;
+    let name = next_name(&mut words).ok_or(Cause::NoCall)?;
     let act = arguments(alloc, name, MOST_ACTIONS, &mut words)?;
     no_more(&mut words)?;
     Ok(Line { thread, act })

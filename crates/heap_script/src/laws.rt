@@ -5,7 +5,7 @@ ghost use Rattle.heap_script.specs.Laws.{ScriptsAreRead, ScriptsAreRefused, Scri
 ghost use Rattle.heap_script.specs.Printed.{PrintedScriptsAreRead};
 
 use az_words::numbers_are_read;
-use call_words::{arguments_are_read, collect_names_are_read, names_are_read};
+use call_words::{arguments_are_read, names_are_read};
 
 /// Exactly the call lines of the grammar are read, each as what it says.
 pub fn lines_are_read()
@@ -65,13 +65,11 @@ pub fn texts_have_one_reading()
     scripts_are_refused();
 }
 
-/// Each script has options in their ranges, and each of its lines asks a thread that there is for what is built, and for
-/// what the grammar of histories has too: a layout that blocks may have, and actions of objects alone.
+/// Each script has options in their ranges, and each of its lines asks a thread that there is for what scripts have a name
+/// for, and for what the grammar of histories has too: a layout that blocks may have, and actions of objects alone.
 pub fn scripts_can_be_played()
     ensures { ScriptsCanBePlayed }
-{
-    collect_names_are_read();
-}
+{}
 
 /// A printed script that keeps the limits of scripts is read as the same script.
 pub fn printed_scripts_are_read()

@@ -6,7 +6,6 @@
 //! `Cause`: so each reader names the cause that stands where its word is missing or wrong.
 #![tactic(auto)]
 
-mod built;
 mod cause;
 mod entries;
 mod laws;

@@ -1,7 +1,7 @@
 //! Reading a script, line by line.
 ghost use Rattle.std.specs.Prelude.{◌≡◌, IfOk};
 ghost use Rattle.az_base.specs.OptionRanges.{IsValid};
-ghost use Rattle.heap_script.specs.Scripts.{is_called, Parses, AllThreads, AllBuilt, AllSpelled};
+ghost use Rattle.heap_script.specs.Scripts.{is_called, Parses, AllThreads, AllNamed, AllSpelled};
 ghost use Rattle.heap_script.specs.Reading.Scripts.{IsRead};
 
 use crate::cause::ScriptErr;
@@ -28,7 +28,7 @@ pub fn parse(alloc: Global, bytes: &[u8]) -> Result<Script, ScriptErr>
     ensures reads { IsRead bytes.now result }
     ensures options { IfOk result (λ script. IsValid script.options) }
     ensures threads { IfOk result (λ script. AllThreads script.lines) }
-    ensures built { IfOk result (λ script. AllBuilt script.lines) }
+    ensures named { IfOk result (λ script. AllNamed script.lines) }
     ensures spelled { IfOk result (λ script. AllSpelled script.lines) }
 {
     scripts_are_read();

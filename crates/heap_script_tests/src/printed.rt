@@ -1,12 +1,9 @@
 //! What is printed of scripts: the lines of a realistic script of four threads, and options.
-use az_base::Options;
-use az_words::{Words, next_line};
-use call_words::{arguments, call_name, next_thread};
-use heap_script::{Line, LineList, Script, parse, print};
+use heap_script::{parse, print};
 use std::alloc::Global;
 
 /// A tree with weak parents, a cache, and temporaries.
-static LINES: &[u8] = b"1 new r0 object SWP
+static LINES: &str = "1 new r0 object SWP
 1 new r1 object SWP
 1 store r0 0 r1
 1 put r1 2 42
@@ -53,7 +50,7 @@ static LINES: &[u8] = b"1 new r0 object SWP
 ";
 
 /// The other calls, and the ends of ranges.
-static CALLS: &[u8] = b"16 new r15 object SWPPWS keep g255 pass g0 4294967295
+static CALLS: &str = "16 new r15 object SWPPWS keep g255 pass g0 4294967295
 16 new r15 unscanned 4096
 16 put r15 4294967295 18446744073709551615
 16 copy r14 r15
@@ -87,36 +84,6 @@ static THREADS: &str = "option pending 1
 16 setroot g0 r0
 ";
 
-/// A line of the grammar, with all calls and up to eight actions.
-fn line_of(alloc: Global, text: &[u8]) -> Option<Line> {
-    let mut words = Words::new(text);
-    let thread = next_thread(&mut words)?;
-    let name = call_name(words.next()?)?;
-    let act = arguments(alloc, name, 8, &mut words).ok()?;
-    Some(Line { thread, act })
-}
-
-/// The lines of a text; None where one is none, or memory ran out.
-fn lines_of(alloc: Global, text: &[u8]) -> Option<LineList> {
-    let mut lines = Vec::new(alloc);
-    let mut rest = text;
-    while let Some((line, after)) = next_line(rest) {
-        lines.push(line_of(alloc, line)?).ok()?;
-        rest = after;
-    }
-    Some(LineList::from_vec(lines))
-}
-
-/// The lines of a text are printed as that text.
-fn are_printed(alloc: Global, text: &[u8]) -> Option<bool> {
-    let script = Script {
-        options: Options::usual(),
-        lines: lines_of(alloc, text)?,
-    };
-    let printed = print(alloc, &script).ok()?;
-    Some(printed.as_bytes() == text)
-}
-
 /// A script is printed as this text, and what is printed is printed so again.
 fn is_printed_as(alloc: Global, script: &[u8], text: &str) -> Option<bool> {
     let script = parse(alloc, script).ok()?;
@@ -128,12 +95,12 @@ fn is_printed_as(alloc: Global, script: &[u8], text: &str) -> Option<bool> {
 
 #[test]
 fn four_threads_are_printed(rt: HostRuntime) {
-    assert!(rt; are_printed(rt.alloc(), LINES) == Some(true));
+    assert!(rt; is_printed_as(rt.alloc(), LINES.as_bytes(), LINES) == Some(true));
 }
 
 #[test]
 fn all_calls_are_printed(rt: HostRuntime) {
-    assert!(rt; are_printed(rt.alloc(), CALLS) == Some(true));
+    assert!(rt; is_printed_as(rt.alloc(), CALLS.as_bytes(), CALLS) == Some(true));
 }
 
 #[test]

@@ -59,6 +59,7 @@ fn scripts_are_read(rt: HostRuntime) {
             ),
             (b"1 collect local".as_slice(), 1),
             (b"16 collect\tlocal \n1 stats\n016 stats".as_slice(), 3),
+            (b"1 collect young\n1 collect full".as_slice(), 2),
         ],
     );
     assert!(rt; agree);
@@ -98,14 +99,16 @@ fn causes_stand_in_order(rt: HostRuntime) {
             (b"1 stats\r\n".as_slice(), Cause::NoCall, 1),
             (b"1 New r0 scanned 0".as_slice(), Cause::NoCall, 1),
             (b"1 # new r0 scanned 0".as_slice(), Cause::NoCall, 1),
-            (b"1 collect young".as_slice(), Cause::NoCall, 1),
-            (b"1 collect full".as_slice(), Cause::NoCall, 1),
-            (b"1 collect full local".as_slice(), Cause::NoCall, 1),
             (b"1 collect".as_slice(), Cause::WrongArgument, 1),
             (b"1 collect weak".as_slice(), Cause::WrongArgument, 1),
             (b"1 collect Local".as_slice(), Cause::WrongArgument, 1),
             (
                 b"1 collect local young".as_slice(),
+                Cause::TooManyArguments,
+                1,
+            ),
+            (
+                b"1 collect full local".as_slice(),
                 Cause::TooManyArguments,
                 1,
             ),
@@ -158,6 +161,70 @@ fn causes_stand_in_order(rt: HostRuntime) {
             ),
             (
                 b"1 new r0 scanned 0 # note".as_slice(),
+                Cause::TooManyArguments,
+                1,
+            ),
+        ],
+    );
+    assert!(rt; agree);
+}
+
+#[test]
+fn actions_are_read(rt: HostRuntime) {
+    let agree = are_read(
+        rt.alloc(),
+        &[
+            (b"1 new r0 object P keep g9".as_slice(), 1),
+            (
+                b"1 new r0 object SP pass g255 04294967295 keep g0".as_slice(),
+                1,
+            ),
+            (
+                b"1 new r0 object S keep g1 keep g1 keep g1 keep g1 keep g1 keep g1 keep g1 keep g1".as_slice(),
+                1,
+            ),
+        ],
+    );
+    assert!(rt; agree);
+}
+
+#[test]
+fn actions_are_refused(rt: HostRuntime) {
+    let agree = are_refused(
+        rt.alloc(),
+        &[
+            (
+                b"1 new r0 object S keep".as_slice(),
+                Cause::WrongArgument,
+                1,
+            ),
+            (
+                b"1 new r0 object S keep r1".as_slice(),
+                Cause::WrongArgument,
+                1,
+            ),
+            (
+                b"1 new r0 object S pass g1".as_slice(),
+                Cause::WrongArgument,
+                1,
+            ),
+            (
+                b"1 new r0 object S keep g256 more".as_slice(),
+                Cause::WrongArgument,
+                1,
+            ),
+            (
+                b"1 new r0 object S Keep g1".as_slice(),
+                Cause::TooManyArguments,
+                1,
+            ),
+            (
+                b"1 new r0 object S keep g1 g2".as_slice(),
+                Cause::TooManyArguments,
+                1,
+            ),
+            (
+                b"1 new r0 object S keep g1 keep g1 keep g1 keep g1 keep g1 keep g1 keep g1 keep g1 keep".as_slice(),
                 Cause::TooManyArguments,
                 1,
             ),

@@ -1,6 +1,5 @@
 -- The calls of a cycle, one after another, are one collection
-use Rattle.std.proofs.Common.{◌≡◌, ◌==◌, ◌<◌, ◌-◌, ◌+◌, ℕ, zero, suc, Bool, true, false, MatchBool, not, List, [], ◌∷◌, ◌++◌, Option, Some, None, All, map, replicate, refl, sym, ap, ap₂, subst, ◌∙◌, ◌⊎◌, inl, inr, arith, true≢false, append_assoc, append-nil, option_map, eqb-true}
-use Rattle.std.specs.List.{list_any}
+use Rattle.std.proofs.Common.{◌≡◌, ◌==◌, ◌<◌, ◌+◌, ℕ, zero, suc, Bool, true, false, MatchBool, not, List, [], ◌∷◌, ◌++◌, None, replicate, refl, sym, ap, ap₂, subst, ◌∙◌, ◌⊎◌, inl, inr, arith, true≢false, append_assoc, append-nil, option_map, eqb-true, Result, Ok, Err, OnOk}
 use Rattle.std.specs.Option.{option_map_or}
 use Rattle.std.proofs.lemmas.List.{map-append}
 use Rattle.std.proofs.lemmas.List.Elements.{All-append, All-nil, All-from_recursion}
@@ -14,7 +13,7 @@ use Rattle.zone_model.specs.declared.entry.Reply.{Reply}
 use Rattle.zone_model.specs.declared.entry.Reply.TheVariants as reply
 use Rattle.zone_model.specs.Bare.{bare_reply}
 use Rattle.zone_model.specs.Collection.{new_cycle}
-use Rattle.zone_model.specs.History.{Run, Ends, IsGroup, calls_of, is_cycle_step}
+use Rattle.zone_model.specs.History.{Run, Ends, is_cycle_step}
 use Rattle.zone_model.specs.Part.{Part, is_local}
 use Rattle.zone_model.specs.Phases.{Marking, Settling, May, is_closing, left_in}
 use Rattle.zone_model.specs.State.{State, opening}
@@ -32,7 +31,7 @@ use Rattle.play_order.specs.Playing.{IsTold}
 use Rattle.play_order.specs.Waiting.{Waits, Publishes as PublishesLine}
 use Rattle.play_core.specs.Collecting.{Publishes, PublishesCalls, Collects, Closes}
 use Rattle.play_core.specs.Playing.{CanPlay, PlaysLine}
-use Rattle.play_core.specs.Worlds.{WorldShown, AtEnd, IsQuiet, threads_in, local_of, waits_of, part_at, seen, is_running, line_of, Steps}
+use Rattle.play_core.specs.Worlds.{WorldShown, AtEnd, IsQuiet, threads_in, waits_of, part_at, seen, is_running, line_of, Steps}
 
 -- a step of a cycle isn't local, and doesn't end its thread
 pub cycle_shared : (p : Part) (c : Call) → is_cycle_step c ≡ true → is_local p c ≡ false
@@ -216,7 +215,7 @@ collection_plays old new t mode told c = (
 )
 
 -- after which the world can go on
-pub collection_goes_on : (w after : WorldShown) (rs : List Request) (t : ℕ) (mode : Mode) → CanPlay w rs → is_running w t ≡ true → Collects w after t mode → (IsQuiet w → IsQuiet after) → CanPlay after rs
+collection_goes_on : (w after : WorldShown) (rs : List Request) (t : ℕ) (mode : Mode) → CanPlay w rs → is_running w t ≡ true → Collects w after t mode → (IsQuiet w → IsQuiet after) → CanPlay after rs
 collection_goes_on w after rs t mode can run c quiet = record {
   threads = c.1.threads ∙ can.threads;
   running = λ u. by u (t == u) refl ∙ can.running u;
@@ -226,3 +225,8 @@ collection_goes_on w after rs t mode can run c quiet = record {
     by : (u : ℕ) (b : Bool) → (t == u) ≡ b → is_running after u ≡ is_running w u
     by u true e = subst (λ v. is_running after v ≡ is_running w v) (eqb-true t u e) (c.1.running ∙ sym run)
     by u false e = ap (λ o. option_map_or (λ (l : LocalSet). not l.ended) o false) (c.1.others u e)
+
+pub collection_lasts : {X E : Type 0} (w after : WorldShown) (rs : List Request) (t : ℕ) (mode : Mode) (r : Result X E) → CanPlay w rs → is_running w t ≡ true
+    → OnOk r (Collects w after t mode) → OnOk r (IsQuiet w → IsQuiet after) → OnOk r (CanPlay after rs)
+collection_lasts w after rs t mode (Ok x) can run c quiet = collection_goes_on w after rs t mode can run c quiet
+collection_lasts w after rs t mode (Err e) can run c quiet = tt

@@ -7,7 +7,9 @@ use Rattle.std.proofs.lemmas.List.{map-append}
 use Rattle.std.proofs.lemmas.List.Elements.{filter-append}
 use Rattle.az_base.specs.declared.misuse.NoMemory.{NoMemory}
 use Rattle.az_base.specs.declared.options.Options.{Options}
+use Rattle.call_words.specs.Ranges.{IsNamed}
 use Rattle.heap_script.specs.declared.line.Line.{Line}
+use Rattle.zone_model.specs.declared.act.Act.TheVariants as act
 use Rattle.zone_model.specs.declared.call.Call.{Call}
 use Rattle.zone_model.specs.declared.call.Call.TheVariants as call
 use Rattle.zone_model.specs.declared.entry.Entry.{Entry}
@@ -28,7 +30,7 @@ use Rattle.play_order.specs.Playing.{Seen, SoFar}
 use Rattle.play_order.proofs.Playing.{so_far_none, so_far_all}
 use Rattle.play_order.proofs.Rooms.{play_alike}
 use Rattle.play_core.specs.Opening.{opening_seen}
-use Rattle.play_core.specs.Playing.{requests, IsBuiltCall, CanPlay, Turns, ends_of}
+use Rattle.play_core.specs.Playing.{requests, CanPlay, Turns, ends_of}
 use Rattle.play_core.specs.Worlds.{WorldShown, AtEnd, IsQuiet, CyclesStay, threads_in, seen, is_running, Steps, IsBelow, Ascending}
 use Rattle.play_core.proofs.Cycles.{quiet_still, plain_leaves}
 use Rattle.play_core.proofs.Ending.{so_far_turns, turns_options}
@@ -130,37 +132,37 @@ any_filter p t (u ∷ us) has h = by (u == t) refl h (any_filter p t us has)
 pub can_go : (w : WorldShown) (rs : List Request) (t : ℕ) → CanPlay w rs → is_asked rs t ≡ true → (1 ≤ t) × (t ≤ 16) → is_running w t ≡ true
 can_go w rs t can asked range = can.running t ∙ any_filter (is_asked rs) t (range_with_len 1 16) asked (stands_in t 1 16 range.0 (let most = range.1 in omega (arith, most)))
 
-built_stays : (c : Call) → IsBuiltCall c → is_leave c ≡ false
-built_stays call.Leave h = absurd h
-built_stays c h = refl
+named_stays : (c : Call) → IsNamed (act.Call c) → is_leave c ≡ false
+named_stays call.Leave h = absurd h
+named_stays c h = refl
 
 -- what lines ask for is no step of a cycle by itself
-pub built_quiet : (c : Call) → IsBuiltCall c → is_cycle_step c ≡ false
-built_quiet (call.Begin mode) h = absurd h
-built_quiet call.Condemn h = absurd h
-built_quiet call.Finalise h = absurd h
-built_quiet call.Reclaim h = absurd h
-built_quiet c h = refl
+pub named_quiet : (c : Call) → IsNamed (act.Call c) → is_cycle_step c ≡ false
+named_quiet (call.Begin mode) h = absurd h
+named_quiet call.Condemn h = absurd h
+named_quiet call.Finalise h = absurd h
+named_quiet call.Reclaim h = absurd h
+named_quiet c h = refl
 
 -- and so its thread may make it
-pub built_may : (w : WorldShown) (t : ℕ) (c : Call) → IsBuiltCall c → AtEnd w (λ z. May z t c)
-built_may w t (call.Begin mode) h = absurd h
-built_may w t call.Condemn h = absurd h
-built_may w t call.Finalise h = absurd h
-built_may w t call.Reclaim h = absurd h
-built_may w t call.Leave h = absurd h
-built_may w t _ h = λ z ends. tt
+pub named_may : (w : WorldShown) (t : ℕ) (c : Call) → IsNamed (act.Call c) → AtEnd w (λ z. May z t c)
+named_may w t (call.Begin mode) h = absurd h
+named_may w t call.Condemn h = absurd h
+named_may w t call.Finalise h = absurd h
+named_may w t call.Reclaim h = absurd h
+named_may w t call.Leave h = absurd h
+named_may w t _ h = λ z ends. tt
 
 -- and goes on
-pub can_still : (w after : WorldShown) (rs : List Request) (t : ℕ) (c : Call) (reply : Reply) → CanPlay w rs → is_running w t ≡ true → IsBuiltCall c → Steps w after t c reply → (LeavesCycle c reply → CyclesStay w after) → threads_in after.locals ≡ threads_in w.locals → CanPlay after rs
-can_still w after rs t c reply can run built steps leaves threads = record {
+pub can_still : (w after : WorldShown) (rs : List Request) (t : ℕ) (c : Call) (reply : Reply) → CanPlay w rs → is_running w t ≡ true → IsNamed (act.Call c) → Steps w after t c reply → (LeavesCycle c reply → CyclesStay w after) → threads_in after.locals ≡ threads_in w.locals → CanPlay after rs
+can_still w after rs t c reply can run named steps leaves threads = record {
   threads = threads ∙ can.threads;
   running = λ u. by u (t == u) refl ∙ can.running u;
-  quiet = quiet_still w after (leaves (plain_leaves c reply (built_quiet c built))) can.quiet;
+  quiet = quiet_still w after (leaves (plain_leaves c reply (named_quiet c named))) can.quiet;
 }
   where
     by : (u : ℕ) (b : Bool) → (t == u) ≡ b → is_running after u ≡ is_running w u
-    by u true e = subst (λ v. is_running after v ≡ is_running w v) (eqb-true t u e) (steps.running ∙ ap not (built_stays c built) ∙ sym run)
+    by u true e = subst (λ v. is_running after v ≡ is_running w v) (eqb-true t u e) (steps.running ∙ ap not (named_stays c named) ∙ sym run)
     by u false e = ap (λ o. option_map_or (λ (l : LocalSet). not l.ended) o false) (steps.others u e)
 
 filter_all : (p : ℕ → Bool) (ts : List ℕ) → ((u : ℕ) → list_any (λ v. v == u) ts ≡ true → p u ≡ true) → filter p ts ≡ ts

@@ -4,9 +4,6 @@ use Rattle.std.specs.List.{list_any}
 use Rattle.zone_history.specs.Histories.{Request}
 use Rattle.heap_script.specs.declared.line.Line.{Line}
 use Rattle.heap_script.specs.declared.script.Script.{Script}
-use Rattle.heap_script.specs.Scripts.{IsBuilt}
-use Rattle.zone_model.specs.declared.act.Act.TheVariants as act
-use Rattle.zone_model.specs.declared.call.Call.{Call}
 use Rattle.play_order.specs.Places.{Played}
 use Rattle.play_order.specs.Play.{leaves, threads_of}
 use Rattle.play_order.specs.Playing.{Seen, IsTold, Turn}
@@ -37,10 +34,6 @@ ends_of w = ends_among w (threads_in w.locals)
 abbrev pub EndStops : WorldShown → WorldShown → Type 0
 EndStops old new = (n : ℕ) × (t : ℕ) × (slice_get (threads_in old.locals) n ≡ Some t)
     × (mid : Seen) × Turns (seen old) (ends_among old (take n (threads_in old.locals))) mid × Stops mid (seen new) t
-
--- a call that scripts can ask for
-abbrev pub IsBuiltCall : Call → Type 0
-IsBuiltCall c = IsBuilt (act.Call c)
 
 -- one line was played: it is a turn of a thread whose part is told by its entries
 abbrev pub PlaysLine : WorldShown → WorldShown → Request → Type 0

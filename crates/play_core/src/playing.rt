@@ -2,7 +2,8 @@
 ghost use Rattle.std.specs.Prelude.{◌≡◌, ◌==◌, [], ◌∷◌, ◌++◌, true, filter, All, IfOk, OnOk};
 ghost use Rattle.std.specs.List.{list_any};
 ghost use Rattle.az_base.specs.OptionRanges.{IsValid};
-ghost use Rattle.heap_script.specs.Scripts.{AllBuilt, IsBuilt};
+ghost use Rattle.call_words.specs.Ranges.{IsNamed};
+ghost use Rattle.heap_script.specs.Scripts.{AllNamed};
 ghost use Rattle.zone_history.specs.Histories.{IsHistoryOf, is_asked};
 ghost use Rattle.play_order.specs.Play.{IsPlayOf, IsProper, threads_of as asked_threads};
 ghost use Rattle.play_order.specs.Playing.{SoFar};
@@ -62,7 +63,7 @@ fn play_line(
     thread: ThreadNo,
     act: &Act,
 ) -> Result<(), NoMemory>
-    requires built { IsBuilt act.now }
+    requires named { IsNamed act.now }
     requires asked { is_asked (requests lines.now) thread ≡ true }
     requires running { CanPlay world.old (requests lines.now) }
     ensures turn { OnOk result (PlaysLine world.old world.new (thread, act.now)) }
@@ -83,7 +84,7 @@ fn play_line(
 
 /// Plays the lines in their order.
 fn play_lines(alloc: Global, world: &mut World, lines: &[Line]) -> Result<(), NoMemory>
-    requires built { AllBuilt lines.now }
+    requires named { AllNamed lines.now }
     requires opened { SoFar [] (seen world.old) }
     requires running { CanPlay world.old (requests lines.now) }
     ensures so_far { OnOk result (SoFar (requests lines.now) (seen world.new)) }
@@ -99,7 +100,7 @@ fn play_lines(alloc: Global, world: &mut World, lines: &[Line]) -> Result<(), No
 
 /// Plays the lines, and then the ends; the statistics of the end.
 fn play_all(alloc: Global, world: &mut World, lines: &[Line]) -> Result<Stats, NoMemory>
-    requires built { AllBuilt lines.now }
+    requires named { AllNamed lines.now }
     requires opened { SoFar [] (seen world.old) }
     requires running { CanPlay world.old (requests lines.now) }
     ensures play { IfOk result (λ stats. IsPlayOf world.new.options (requests lines.now) world.new.journal stats) }
@@ -114,7 +115,7 @@ fn play_all(alloc: Global, world: &mut World, lines: &[Line]) -> Result<Stats, N
 /// and O(16) for each line.
 pub fn play(alloc: Global, script: &Script) -> Result<Recording, NoMemory>
     requires options { IsValid script.now.options }
-    requires built { AllBuilt script.now.lines }
+    requires named { AllNamed script.now.lines }
     ensures history { IfOk result (λ p. IsHistoryOf script.now.options (requests_of script.now) p.entries.items p.stats) }
     ensures ordered { IfOk result (λ p. IsPlayOf script.now.options (requests_of script.now) p.entries.items p.stats) }
 {

@@ -9,9 +9,11 @@
 #![tactic(auto)]
 
 mod generator;
+mod laws;
 mod lines;
 mod script;
 
+pub use laws::soak_scripts_can_be_played;
 pub use script::soak_script;
 
 #[cfg(test)]

@@ -1,25 +1,15 @@
--- The words of a command, as the parse finds them
-use Rattle.std.proofs.Common.{◌≡◌, ℕ, Bool, true, false, cond, List, [], ◌∷◌, Some, None, map, refl, ap, ◌∙◌, codes}
+-- The words of commands, as the parse finds them
+use Rattle.std.proofs.Common.{◌≡◌, ℕ, true, false, List, [], ◌∷◌, Option, Some, None, map, refl, sym, ap, ◌∙◌, subst, codes}
 use Rattle.std.specs.List.{list_any}
-use Rattle.std.specs.Str.{bytes_eq}
-use Rattle.std.proofs.lemmas.Slice.Eq.{bytes_eq-Decides}
 use Rattle.clap.specs.Words.{first_of, found_of, is_simple, matches_of, new_rule, takes, with_rule, HasMatchesOf}
 use Rattle.clap.specs.declared.parser.matches.ArgMatches.{ArgMatches}
 use Rattle.clap.proofs.OnLiterals.{clap_on_literals}
-use Rattle.clap.proofs.WalkLemmas.{first_value-rows}
+use Rattle.clap.proofs.WalkLemmas.{first_value-rows, list_any-map}
 use Rattle.zone_commands.specs.declared.words.Command.{Command}
 use Rattle.zone_commands.specs.declared.words.Command.TheVariants as commands
-use Rattle.zone_commands.specs.CommandLine.{asked, is_dashed, unnamed, command_line, Finds}
-
-chosen : (b : Bool) (x y : Command) → cond b (Some x) None ≡ Some y → b ≡ true
-chosen true x y e = refl
-chosen false x y e = cc
-
--- the one list of words that is a command
-pub words_are : (words : List (List ℕ)) (c : Command) → asked words ≡ Some c → words ≡ codes "play" ∷ []
-words_are [] c e = cc
-words_are (word ∷ []) c e = ap (λ w. w ∷ []) ((bytes_eq-Decides word (codes "play")).0 (chosen (bytes_eq word (codes "play")) commands.Play c e))
-words_are (word ∷ other ∷ words) c e = cc
+use Rattle.zone_commands.specs.CommandLine.{arguments_of, is_dashed, unnamed, command_line, AsksFor, Finds}
+use Rattle.zone_commands.proofs.Numbers.{number_not_dashed}
+use Rattle.zone_commands.proofs.WalkedWords.{soak_is_taken, soak_is_found}
 
 pub play_is_simple : is_simple command_line ≡ true
 unfolding clap_on_literals command_line
@@ -55,11 +45,35 @@ pub line_is : with_rule (with_rule (with_rule unnamed (new_rule (codes "command"
 unfolding command_line
 line_is = refl
 
+-- a command's words are taken, and found as they are
+pub command_is_taken : (words : List (List ℕ)) (c : Command) → AsksFor words c → takes command_line words ≡ true
+command_is_taken words commands.Play h = ap (takes command_line) h ∙ play_is_taken
+command_is_taken words (commands.Soak start calls) h =
+    ap (takes command_line) h.2 ∙ soak_is_taken h.0 h.1 (number_not_dashed h.0 start h.3) (number_not_dashed h.1 calls h.4)
+
+-- the words that the parse found
+pub record Found (m : ArgMatches) (words : List (List ℕ)) : Type 0 where
+  pub word : List ℕ
+  pub first : Option (List ℕ)
+  pub second : Option (List ℕ)
+  pub finds : Finds m word first second
+  pub are : arguments_of word first second ≡ words
+
+pub command_is_found : (words : List (List ℕ)) (c : Command) (m : ArgMatches) → AsksFor words c → HasMatchesOf command_line words m → Found m words
+command_is_found words commands.Play m h has = record { word = codes "play"; first = None; second = None; finds = play_is_found words m h has; are = sym h }
+command_is_found words (commands.Soak start calls) m h has =
+    record {
+      word = codes "soak";
+      first = Some h.0;
+      second = Some h.1;
+      finds = soak_is_found h.0 h.1 m (number_not_dashed h.0 start h.3) (number_not_dashed h.1 calls h.4) (subst (λ ws. HasMatchesOf command_line ws m) h.2 has);
+      are = sym h.2;
+    }
+
 -- no word of a command begins with a dash
-pub not_dashed : {X : Type 0} (f : X → List ℕ) (words : List X) (c : Command) → asked (map f words) ≡ Some c → list_any (λ word. is_dashed (f word)) words ≡ false
-not_dashed {X = X} f words c e = alone words (words_are (map f words) c e)
-  where
-    alone : (words : List X) → map f words ≡ codes "play" ∷ [] → list_any (λ word. is_dashed (f word)) words ≡ false
-    alone [] e = cc
-    alone (word ∷ []) e = let is : f word ≡ codes "play" = cc in rw is refl
-    alone (word ∷ other ∷ more) e = cc
+none_dashed : (words : List (List ℕ)) (c : Command) → AsksFor words c → list_any is_dashed words ≡ false
+none_dashed words commands.Play h = ap (list_any is_dashed) h
+none_dashed words (commands.Soak start calls) h = ap (list_any is_dashed) h.2 ∙ rw (number_not_dashed h.0 start h.3, number_not_dashed h.1 calls h.4) refl
+
+pub not_dashed : {X : Type 0} (f : X → List ℕ) (words : List X) (c : Command) → AsksFor (map f words) c → list_any (λ word. is_dashed (f word)) words ≡ false
+not_dashed f words c h = list_any-map is_dashed f words ∙ none_dashed (map f words) c h

@@ -12,10 +12,11 @@ use Rattle.zone_model.specs.declared.entry.Stats.{Stats}
 use Rattle.zone_model.specs.Bare.{bare_reply, bare_entry}
 use Rattle.zone_model.specs.Replies.{NoCondemn, SameButRoom}
 use Rattle.az_base.specs.declared.options.Options.{Options}
+use Rattle.call_words.specs.Ranges.{IsNamed}
 use Rattle.heap_script.specs.declared.line.Line.{Line}
 use Rattle.heap_script.specs.declared.script.Script.{Script}
 use Rattle.heap_script.specs.Refusals.{Refusal}
-use Rattle.heap_script.specs.Scripts.{IsThere, IsBuilt, CanBePlayed}
+use Rattle.heap_script.specs.Scripts.{IsThere, CanBePlayed}
 use Rattle.heap_script.specs.Laws.{ScriptsAreRead, ScriptsCanBePlayed}
 use Rattle.zone_history.specs.Histories.{Request}
 use Rattle.history_text.specs.declared.lines.HistoryLine.TheVariants as line
@@ -58,24 +59,24 @@ same_text o one other stats same =
     ∙ ap (λ n. (front ++ map line_text (entry_lines other)) ++ line_text (line.End n stats) ∷ []) count ∙ sym (texts_are o other stats))
 
 -- what a script asks for is no Condemn by itself
-no_condemn : (a : Act) → IsBuilt a → NoCondemn a
-no_condemn (act.Call c) h = λ e. subst (λ d. IsBuilt (act.Call d)) e h
+no_condemn : (a : Act) → IsNamed a → NoCondemn a
+no_condemn (act.Call c) h = λ e. subst (λ d. IsNamed (act.Call d)) e h
 no_condemn (act.Collect mode) h = tt
 
-proper_lines : (lines : List Line) → AllByRecursion IsThere lines → AllByRecursion (λ (line : Line). IsBuilt line.act) lines → AllByRecursion (λ (line : Line). IsProper (line.thread, line.act)) lines
-proper_lines [] threads built = tt
-proper_lines (line ∷ lines) threads built = ((threads.0.0, threads.0.1, no_condemn line.act built.0), proper_lines lines threads.1 built.1)
+proper_lines : (lines : List Line) → AllByRecursion IsThere lines → AllByRecursion (λ (line : Line). IsNamed line.act) lines → AllByRecursion (λ (line : Line). IsProper (line.thread, line.act)) lines
+proper_lines [] threads named = tt
+proper_lines (line ∷ lines) threads named = ((threads.0.0, threads.0.1, no_condemn line.act named.0), proper_lines lines threads.1 named.1)
 
-proper : (script : Script) → CanBePlayed script → All IsProper (requests_of script)
+pub proper : (script : Script) → CanBePlayed script → All IsProper (requests_of script)
 proper script h =
     All-map IsProper (λ (line : Line). (line.thread, line.act)) script.lines
-    (All-from_recursion _ script.lines (proper_lines script.lines (recursion_from_All IsThere script.lines h.threads) (recursion_from_All (λ (line : Line). IsBuilt line.act) script.lines h.built)))
+    (All-from_recursion _ script.lines (proper_lines script.lines (recursion_from_All IsThere script.lines h.threads) (recursion_from_All (λ (line : Line). IsNamed line.act) script.lines h.named)))
 
 script_same : (a b : Script) → ◌≡◌ {A = Result Script Refusal} (Ok a) (Ok b) → a ≡ b
 script_same a b e = cc
 
 -- a list of requests has one history in the order of a play, but for the room of the lists in its replies
-abbrev OneWay : Type 0
+abbrev pub OneWay : Type 0
 OneWay = (o : Options) (requests : List Request) (one other : List Entry) (stats its : Stats) → All IsProper requests
     → IsPlayOf o requests one stats → IsPlayOf o requests other its → SameButRoom one other × (stats ≡ its)
 

@@ -1,15 +1,36 @@
 -- The words of the command line, and what they ask for
-use Rattle.std.specs.Prelude.{◌≡◌, ◌==◌, ℕ, Bool, true, false, List, [], ◌∷◌, Option, Some, None, is_some, codes, if◌then◌else◌}
+use Rattle.std.specs.Prelude.{◌≡◌, ◌≤◌, ◌<◌, ◌==◌, ◌&&◌, ◌^◌, ℕ, Bool, true, false, List, [], ◌∷◌, length, Option, Some, None, is_some, codes, nat_lt, nat_le, if◌then◌else◌}
+use Rattle.std.specs.Char.{digit_value}
+use Rattle.std.specs.List.{list_all}
 use Rattle.std.specs.Str.{bytes_eq}
+use Rattle.std.specs.Str.Parse.{IsNumeral, digits_value, without_leading_plus}
 use Rattle.clap.specs.Words.{App, first_value, found_of, new_app, new_rule, with_rule}
 use Rattle.clap.specs.declared.parser.matches.ArgMatches.{ArgMatches}
 use Rattle.zone_commands.specs.declared.words.Command.{Command}
 use Rattle.zone_commands.specs.declared.words.Command.TheVariants as commands
 
+-- one decimal digit or more, and nothing else
+abbrev pub are_digits : List ℕ → Bool
+are_digits text = nat_lt 0 (length text) && list_all (λ c. nat_lt (digit_value c) 10) text
+
+-- the number of 64 bits that digits write
+abbrev pub number_by : List ℕ → Option ℕ
+number_by digits = if are_digits digits && nat_lt (digits_value 10 digits) (2 ^ 64) then Some (digits_value 10 digits) else None
+
+-- the number that a word is: decimal digits, after a plus or none
+unfoldable pub number_of : List ℕ → Option ℕ
+number_of word = number_by (without_leading_plus word)
+
+-- a generated script has from 1 to 65,536 calls
+abbrev pub soak_by : Option ℕ → Option ℕ → Option Command
+soak_by (Some start) (Some calls) = if nat_le 1 calls && nat_le calls 65536 then Some (commands.Soak start calls) else None
+soak_by _ _ = None
+
 -- what a command word asks for with up to two arguments
 abbrev pub command_by : List ℕ → List (List ℕ) → Option Command
 command_by word [] = if bytes_eq word (codes "play") then Some commands.Play else None
-command_by word (argument ∷ arguments) = None
+command_by word (start ∷ calls ∷ []) = if bytes_eq word (codes "soak") then soak_by (number_of start) (number_of calls) else None
+command_by word _ = None
 
 -- what words ask for; None where they are no command
 abbrev pub asked : List (List ℕ) → Option Command
@@ -22,6 +43,18 @@ arguments_of word None None = word ∷ []
 arguments_of word (Some first) None = word ∷ first ∷ []
 arguments_of word None (Some second) = word ∷ second ∷ []
 arguments_of word (Some first) (Some second) = word ∷ first ∷ second ∷ []
+
+-- the word is this number of 64 bits, as Rust reads it: decimal digits, one or more, after a plus or none
+pub record IsNumber (word : List ℕ) (n : ℕ) : Type 0 where
+  pub digits : IsNumeral 10 (without_leading_plus word)
+  pub value : n ≡ digits_value 10 (without_leading_plus word)
+  pub small : n < 2 ^ 64
+
+-- the words are this command, said apart from how that is found
+abbrev pub AsksFor : List (List ℕ) → Command → Type 0
+AsksFor words commands.Play = words ≡ codes "play" ∷ []
+AsksFor words (commands.Soak start calls) =
+    (first : List ℕ) × (second : List ℕ) × (words ≡ codes "soak" ∷ first ∷ second ∷ []) × IsNumber first start × IsNumber second calls × (1 ≤ calls) × (calls ≤ 65536)
 
 -- the words are a command
 abbrev pub is_command : List (List ℕ) → Bool

@@ -1,4 +1,5 @@
 pub mod CommandLine
 pub mod Statuses
 pub mod Answers
+pub mod Soak
 pub mod Laws

@@ -1,9 +1,10 @@
-//! Laws over what is written.
-ghost use Rattle.zone_commands.specs.Laws.{BytesHaveOneText, HistoriesAreSpelled, TextsAreReadAsPlayed};
+//! Laws over the words, and over what is written.
+ghost use Rattle.zone_commands.specs.Laws.{BytesHaveOneText, CommandsAreAsked, HistoriesAreSpelled, SoaksHaveOneText, TextsAreReadAsPlayed};
 
 use heap_script::{scripts_are_read, scripts_can_be_played};
 use history_text::texts_are_read_back;
 use play_order::requests_are_played_in_one_way;
+use soak_script::soak_scripts_can_be_played;
 
 /// The bytes of a script determine the text of its history: which calls are local, where their entries stand, and what
 /// each reply is.
@@ -27,3 +28,17 @@ pub fn texts_are_read_as_played()
 {
     texts_are_read_back();
 }
+
+/// A start and a number of calls determine what `soak` writes.
+pub fn soaks_have_one_text()
+    ensures { SoaksHaveOneText }
+{
+    soak_scripts_can_be_played();
+    requests_are_played_in_one_way();
+}
+
+/// Words are a command exactly where they are the word `play`, or the word `soak` with a number of 64 bits and one from
+/// 1 to 65,536.
+pub fn commands_are_asked()
+    ensures { CommandsAreAsked }
+{}

@@ -9,11 +9,15 @@
 mod command;
 mod laws;
 mod saying;
+mod soak;
 mod status;
 mod top;
 mod words;
 
-pub use laws::{bytes_have_one_text, histories_are_spelled, texts_are_read_as_played};
+pub use laws::{
+    bytes_have_one_text, commands_are_asked, histories_are_spelled, soaks_have_one_text,
+    texts_are_read_as_played,
+};
 pub use saying::say;
 pub use status::Status;
 pub use top::autozone;

@@ -1,10 +1,13 @@
 //! The top call, which does all that the program does.
-ghost use Rattle.std.specs.Prelude.{◌≡◌, ◌↔◌, [], true, false, codes, map, string_bytes};
+ghost use Rattle.std.specs.Prelude.{◌≡◌, ◌↔◌, ℕ, [], Some, false, codes, map, string_bytes};
+ghost use Rattle.zone_commands.specs.declared.words.Command.TheVariants as commands;
 ghost use Rattle.zone_commands.specs.Answers.{Ended, Says, told};
-ghost use Rattle.zone_commands.specs.CommandLine.{is_command};
+ghost use Rattle.zone_commands.specs.CommandLine.{asked, is_command};
+ghost use Rattle.zone_commands.specs.Soak.{SoakEnded};
 
 use crate::command::{LIMIT, play_command};
 use crate::saying::say;
+use crate::soak::soak_command;
 use crate::status::Status;
 use crate::words::{Command, read_command};
 use az_base::NoMemory;
@@ -12,14 +15,16 @@ use az_outside::{Sink, Source};
 use std::alloc::Global;
 
 /// Does what the words say, which don't have the program's name: `play` reads a script from the source, plays it, and
-/// writes the text of its history to `out`. Any other words are Usage, and nothing is read. Each status but Done is
-/// said on `err` in one line; that `err` fails changes nothing. What each status says of the source and of both sinks
-/// is the record `Ended`.
+/// writes the text of its history to `out`; `soak START CALLS` plays a generated script, and writes two lines about its
+/// history. Any other words are Usage. Nothing is read but by `play`. Each status but Done is said on `err` in one line;
+/// that `err` fails changes nothing. What each status says of the source and of both sinks are the records `Ended` and
+/// `SoakEnded`.
 ///
-/// Where it answers Done, the bytes by which `out` grew are the text of a legal history, whose entries are those of
+/// Where `play` answers Done, the bytes by which `out` grew are the text of a legal history, whose entries are those of
 /// each script thread's calls, once and in their order, and then of its leave; `read_text` of `history_text` reads them as
-/// this history (`texts_are_read_as_played`). The entries of all threads stand in the
-/// order of a play (`IsPlayOf`), so that the bytes of the script alone determine this text (`bytes_have_one_text`).
+/// this history (`texts_are_read_as_played`). The entries of all threads stand in the order of a play (`IsPlayOf`), so that
+/// the bytes of the script alone determine this text (`bytes_have_one_text`). In the same way START and CALLS determine
+/// what `soak` writes (`soaks_have_one_text`).
 pub fn autozone<S: Source, O: Sink, E: Sink>(
     alloc: Global,
     words: &[String],
@@ -31,12 +36,17 @@ pub fn autozone<S: Source, O: Sink, E: Sink>(
     ensures usage_told { result ≡ Status.Usage → (source.new ≡ source.old) × O.grew out.old out.new []
         × Says (E.faults err.old) (E.faults err.new) (E.grew err.old err.new) (told (codes "wrong usage")) }
 
-    ensures ended { is_command (map string_bytes words.now) ≡ true
+    ensures played { asked (map string_bytes words.now) ≡ Some commands.Play
         → Ended LIMIT result (S.left source.old) (S.left source.new) (S.faults source.old) (S.faults source.new)
         (O.grew out.old out.new) (O.faults out.old) (O.faults out.new) (E.grew err.old err.new) (E.faults err.old) (E.faults err.new) }
+
+    ensures soaked { (start calls : ℕ) → asked (map string_bytes words.now) ≡ Some (commands.Soak start calls)
+        → (source.new ≡ source.old) × SoakEnded start calls result (O.grew out.old out.new) (O.faults out.old) (O.faults out.new)
+        (E.grew err.old err.new) (E.faults err.old) (E.faults err.new) }
 {
     match read_command(alloc, words) {
         Ok(Some(Command::Play)) => play_command(alloc, source, out, err),
+        Ok(Some(Command::Soak { start, calls })) => soak_command(alloc, start, calls, out, err),
         Ok(None) => {
             say(err, "autozone: wrong usage\n");
             Status::Usage

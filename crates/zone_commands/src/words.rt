@@ -9,17 +9,50 @@ ghost use Rattle.std.specs.List.{list_any};
 ghost use Rattle.clap.specs.Words.{HasMatchesOf, takes, kind_of};
 ghost use Rattle.clap.specs.declared.error.kind.ErrorKind.TheVariants as kinds;
 ghost use Rattle.zone_commands.specs.declared.words.Command.{Command};
-ghost use Rattle.zone_commands.specs.CommandLine.{arguments_of, asked, is_dashed, command_line, Finds};
+ghost use Rattle.zone_commands.specs.CommandLine.{number_of, soak_by, arguments_of, asked, is_dashed, command_line, Finds};
 
 use az_base::NoMemory;
 use clap::error::ErrorKind;
 use clap::{Arg, ArgMatches, Error};
 use std::alloc::Global;
 
+/// The most calls of a generated script.
+const MOST_CALLS: u64 = 65_536;
+
 /// What words ask for.
 #[derive(Clone, Copy, PartialEq, Eq)]
 pub enum Command {
+    /// Plays the script that is read.
     Play,
+    /// Plays the generated script of this start, with from 1 to 65,536 calls.
+    Soak { start: u64, calls: u32 },
+}
+
+/// The number that a word is: decimal digits, after a plus or none, of a value below 2^64.
+#[tactic(auto, unfolding(crate::specs::CommandLine::number_of))]
+fn number(word: &str) -> Option<u64>
+    ensures { result ≡ number_of word.now }
+{
+    match word.parse::<u64>() {
+        Ok(number) => Some(number),
+        Err(_) => None,
+    }
+}
+
+/// The generated script that two words ask for.
+fn soak(start: &str, calls: &str) -> Option<Command>
+    ensures { result ≡ soak_by (number_of start.now) (number_of calls.now) }
+{
+    let start = number(start)?;
+    let calls = number(calls)?;
+    if 1 <= calls && calls <= MOST_CALLS {
+        Some(Command::Soak {
+            start,
+            calls: calls as u32,
+        })
+    } else {
+        None
+    }
 }
 
 /// What a command word asks for with its arguments; None where that is no command.
@@ -28,6 +61,7 @@ fn command_of(word: &str, first: Option<&str>, second: Option<&str>) -> Option<C
 {
     match (first, second) {
         (None, None) if word == "play" => Some(Command::Play),
+        (Some(start), Some(calls)) if word == "soak" => soak(start, calls),
         _ => None,
     }
 }

@@ -5,7 +5,6 @@ use Rattle.az_base.specs.OptionRanges.{usual_options}
 use Rattle.az_words.specs.Lines.{lines_of}
 use Rattle.az_words.specs.Words.{words_of}
 use Rattle.az_words.specs.Numerals.{number_in}
-use Rattle.call_words.specs.declared.names.CallName.{CallName}
 use Rattle.call_words.specs.Names.{name_of}
 use Rattle.call_words.specs.Options.{option_of, least}
 use Rattle.call_words.specs.Reading.Words.{thread_of}
@@ -21,7 +20,6 @@ use Rattle.heap_script.specs.declared.entries.Entry.TheVariants as entry
 use Rattle.heap_script.specs.declared.line.Line.{Line}
 use Rattle.heap_script.specs.declared.script.Script.{Script}
 use Rattle.heap_script.specs.declared.setting.Setting.{Setting}
-use Rattle.heap_script.specs.Built.{is_built_before, most_actions}
 use Rattle.heap_script.specs.Settings.{largest, setting_to}
 use Rattle.heap_script.specs.Lines.{is_skipped, called_after}
 use Rattle.heap_script.specs.Refusals.{after_option, Refusal}
@@ -56,25 +54,12 @@ whole read = do
   end ← no_more x.1
   Ok x.0
 
--- a call and the words after its name, where it is built
-abbrev pub where_built : CallName × List (List ℕ) → Option (CallName × List (List ℕ))
-where_built x = if is_built_before x.0 x.1 then Some x else None
-
--- the same of a name that may not be there
-abbrev pub built_by : Option (CallName × List (List ℕ)) → Option (CallName × List (List ℕ))
-built_by None = None
-built_by (Some x) = where_built x
-
--- the call that is built and that the first word names, and the words after it
-unfoldable pub next_built : List (List ℕ) → Option (CallName × List (List ℕ))
-next_built words = built_by (next_as name_of words)
-
 -- a call line, and the words after it
 unfoldable pub line_at : List (List ℕ) → Result (Line × List (List ℕ)) Cause
 line_at words = do
   thread ← or_cause NoThread (next_as thread_of words)
-  name ← or_cause NoCall (next_built thread.1)
-  act ← or_cause WrongArgument (act_at most_actions name.0 name.1)
+  name ← or_cause NoCall (next_as name_of thread.1)
+  act ← or_cause WrongArgument (act_at 8 name.0 name.1)
   Ok (record { thread = thread.0; act = act.0 }, act.1)
 
 -- a call line, and no more

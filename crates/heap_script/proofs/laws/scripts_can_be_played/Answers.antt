@@ -2,4 +2,4 @@ use Rattle.heap_script.proofs.Facts.{can_be_played}
 use Rattle.heap_script.proofs.laws.scripts_can_be_played.Goals as goal
 
 pub returns : goal.returns
-returns c = can_be_played c.collect_names_are_read.ensures
+returns c = can_be_played

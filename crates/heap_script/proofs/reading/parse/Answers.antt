@@ -80,8 +80,8 @@ returns-clause-options c = (playable c).options
 pub returns-clause-threads : goal.returns-clause-threads
 returns-clause-threads c = (playable c).threads
 
-pub returns-clause-built : goal.returns-clause-built
-returns-clause-built c = (playable c).built
+pub returns-clause-named : goal.returns-clause-named
+returns-clause-named c = (playable c).named
 
 pub returns-clause-spelled : goal.returns-clause-spelled
 returns-clause-spelled c = (playable c).spelled
