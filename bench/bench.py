@@ -123,6 +123,51 @@ def holders():
     return made + "".join(held) + "1 copy r4 r0\n1 stats\n1 stats\n" * 10_000
 
 
+def tree(depth, at):
+    """A binary tree of this depth that a register gets, and registers behind it on the way."""
+    birth = f"1 new r{at} scanned 2\n"
+    if depth == 0:
+        return birth
+    stored = f"1 store r{at} 0 r{at + 1}\n1 store r{at} 1 r{at + 2}\n"
+    return tree(depth - 1, at + 1) + tree(depth - 1, at + 2) + birth + stored
+
+
+def trees():
+    """128 trees of 255 blocks, each put into one of 64 roots, and a full collection after every eighth tree. From the 64th
+    tree on a collection takes eight trees, and what is left is 16,320 blocks, and what registers hold."""
+    lines = []
+    for n in range(128):
+        lines.append(tree(7, 0))
+        lines.append(f"1 setroot g{n % 64} r0\n")
+        if n % 8 == 7:
+            lines.append("1 collect full\n")
+    return "".join(lines)
+
+
+def weak_ends():
+    """26,000 weak locations, the words of seven blocks, each with a block of its own to show, of which every other is
+    retained; and a full collection after every 1,000, which takes 500 blocks and makes as many locations null."""
+    lines = [f"1 new r{1 + block} object {'W' * MOST_WORDS}\n" for block in range(7)]
+    for n in range(26_000):
+        lines.append(f"1 new r0 scanned 0\n1 setweak r{1 + n // MOST_WORDS} {n % MOST_WORDS} r0\n")
+        lines.append("1 retain r0\n" if n % 2 else "")
+        lines.append("1 drop r0\n1 collect full\n" if n % 1_000 == 999 else "")
+    return "".join(lines)
+
+
+def finalisers():
+    """A chain of 20,000 blocks with finalisers, which all put their block into one root: a full collection runs them all and
+    keeps all blocks, and when the root is empty again a second one takes them."""
+    made = "1 new r1 object S keep g0\n1 store r1 0 r0\n1 copy r0 r1\n" * 20_000
+    return made + "1 drop r0\n1 drop r1\n1 collect full\n1 setroot g0 r0\n1 collect full\n"
+
+
+def generations():
+    """1,000 young collections beside a chain of 20,000 old blocks. Each but the first takes the block that a root held before."""
+    old = "1 new r1 scanned 1\n1 store r1 0 r0\n1 copy r0 r1\n" * 20_000 + "1 setroot g0 r0\n" + "1 collect full\n" * 3
+    return old + "1 new r0 scanned 0\n1 setroot g1 r0\n1 collect young\n" * 1_000
+
+
 CASES = {
     case.__name__: case
     for case in (
@@ -140,6 +185,10 @@ CASES = {
         weak_reads,
         turns,
         holders,
+        trees,
+        weak_ends,
+        finalisers,
+        generations,
     )
 }
 

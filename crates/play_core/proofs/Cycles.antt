@@ -1,5 +1,5 @@
 -- What the calls of a thread leave of the open cycle
-use Rattle.std.proofs.Common.{◌≡◌, ◌==◌, ℕ, Bool, true, false, MatchBool, List, Option, Some, None, length, refl, sym, ap, subst, ◌∙◌, inl, inr, Result, Ok, Err, IfOk, OnErr}
+use Rattle.std.proofs.Common.{◌≡◌, ◌==◌, ℕ, Bool, true, false, MatchBool, Option, Some, None, length, refl, sym, subst, ◌∙◌, inl, inr, Result, Ok, Err, IfOk, OnErr}
 use Rattle.az_base.specs.declared.misuse.NoMemory.{NoMemory}
 use Rattle.zone_model.specs.declared.call.Call.{Call}
 use Rattle.zone_model.specs.declared.entry.Reply.{Reply}
@@ -7,7 +7,7 @@ use Rattle.zone_model.specs.declared.entry.Reply.TheVariants as reply
 use Rattle.zone_model.specs.History.{is_cycle_step}
 use Rattle.zone_model.specs.Part.{is_local}
 use Rattle.zone_model.specs.Phases.{Free}
-use Rattle.zone_model.specs.State.{State, Cycle}
+use Rattle.zone_model.specs.State.{Cycle}
 use Rattle.zone_model.proofs.OthersCycles.{stays_same}
 use Rattle.local_set.specs.Calls.{Made}
 use Rattle.local_set.specs.LocalSets.{LocalSet, part_in}

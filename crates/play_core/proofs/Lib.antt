@@ -7,3 +7,4 @@ pub mod Ending
 pub mod Cycles
 pub mod Collections
 pub mod Lines
+pub mod Sliced

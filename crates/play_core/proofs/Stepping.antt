@@ -29,7 +29,7 @@ use Rattle.play_core.proofs.Keeping.{Moves, keeps_on}
 
 -- the world of a core and sets
 abbrev pub world_of : CoreShown → List LocalSet → WorldShown
-world_of k locals = record { options = k.heap.options; journal = k.journal.entries; locals = locals }
+world_of k locals = record { options = k.heap.options; journal = k.journal.entries; locals = locals; cycle = k.heap.gc.cycle }
 
 -- what is seen of a thread by its set
 pub waits_is : (w : WorldShown) (t : ℕ) (l : LocalSet) → local_of w t ≡ Some l → waits_of w t ≡ l.waiting

@@ -2,6 +2,7 @@
 use Rattle.std.specs.Prelude.{◌≡◌, ◌<◌, ◌⊎◌, ◌==◌, ℕ, Bool, false, not, List, [], ◌∷◌, ◌++◌, map, find, flat_map, Option, None, if◌then◌else◌}
 use Rattle.std.specs.Option.{option_map_or}
 use Rattle.az_base.specs.declared.options.Options.{Options}
+use Rattle.gen_marker.specs.Marking.{blacks}
 use Rattle.zone_model.specs.declared.act.Act.TheVariants as act
 use Rattle.zone_model.specs.declared.call.Call.{Call}
 use Rattle.zone_model.specs.declared.entry.Entry.{Entry}
@@ -10,17 +11,24 @@ use Rattle.zone_model.specs.History.{Ends}
 use Rattle.zone_model.specs.Part.{Part, opening_part, is_local}
 use Rattle.zone_model.specs.Phases.{CycleStays}
 use Rattle.zone_model.specs.State.{State}
+use Rattle.heap_cycle.specs.Collector.{Collecting, shade_in}
+use Rattle.shared_heap.specs.Cycles.{marked_by}
 use Rattle.local_set.specs.Calls.{entry_of}
 use Rattle.local_set.specs.LocalSets.{LocalSet, part_in}
 use Rattle.zone_escape.specs.Publications.{is_leave}
 use Rattle.play_order.specs.Places.{Played}
 use Rattle.play_order.specs.Playing.{Seen, Turn}
 
--- a world: the options, what was published, and each thread's own set
+-- a world: the options, what was published, each thread's own set, and how far the open cycle has come
 pub record WorldShown : Type 0 where
   pub options : Options
   pub journal : List Entry
   pub locals : List LocalSet
+  pub cycle : Option Collecting
+
+-- how many blocks the open cycle has scanned, until it is condemned
+abbrev pub scanned : WorldShown → ℕ
+scanned w = marked_by (λ g. blacks g.start (shade_in g)) w.cycle
 
 -- the threads of the sets
 abbrev pub threads_in : List LocalSet → List ℕ

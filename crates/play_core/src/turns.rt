@@ -1,9 +1,13 @@
 //! A call of a thread, on its own set and the core.
 ghost use Rattle.std.specs.Prelude.{◌≡◌, ◌≤◌, true, false, [], length, IfOk, OnErr};
 ghost use Rattle.std.specs.Result.{IsOk};
+ghost use Rattle.az_base.specs.declared.action.Mode.{Mode};
+ghost use Rattle.zone_model.specs.declared.call.Call.TheVariants as calls;
+ghost use Rattle.zone_model.specs.declared.entry.Reply.TheVariants as replies;
 ghost use Rattle.zone_model.specs.Part.{is_local as is_local_at};
 ghost use Rattle.zone_model.specs.Phases.{May, is_closing};
 ghost use Rattle.zone_model.specs.State.{State};
+ghost use Rattle.shared_heap.specs.Cycles.{black_in};
 ghost use Rattle.local_set.specs.LocalSets.{part_in};
 ghost use Rattle.zone_escape.specs.Cores.{BelongsTo, IsCore, IsCoreOf};
 ghost use Rattle.play_core.specs.Turning.{Turned, Stopped};
@@ -53,6 +57,7 @@ pub fn turn(
     ensures ok { IfOk result (λ reply. Turned local.old local.new core.old core.new call.now reply) }
     ensures err { OnErr result (Stopped local.old local.new core.old core.new) }
     ensures sure { is_closing call.now ≡ true → local.old.waiting ≡ [] → IsOk result }
+    ensures white { (mode : Mode) → call.now ≡ calls.Begin mode → IfOk result (λ reply. reply ≡ replies.Begun → black_in core.new.heap ≡ 0) }
     ensures state { IsCore core.new }
 {
     match local.call(alloc, call) {

@@ -1,25 +1,32 @@
 //! The world.
-ghost use Rattle.std.specs.Prelude.{◌≡◌, ◌<◌, ◌==◌, ◌∷◌, ◌++◌, ◌↔◌, [], ℕ, List, Some, None, MatchOption, true, false, map, option_map, position, slice_get, length, IfOk, OnOk, OnErr, IsTrue};
+ghost use Rattle.std.specs.Prelude.{◌≡◌, ◌<◌, ◌==◌, ◌∷◌, ◌++◌, ◌↔◌, ◌+◌, ◌≤◌, [], ℕ, List, Some, None, MatchOption, true, false, map, option_map, position, slice_get, length, IfOk, IfSome, OnOk, OnErr, IsTrue};
 ghost use Rattle.az_base.specs.OptionRanges.{IsValid};
 ghost use Rattle.std.specs.List.{list_any};
 ghost use Rattle.std.specs.Result.{IsOk};
 ghost use Rattle.zone_model.specs.Bare.{bare_entry};
 ghost use Rattle.zone_model.specs.History.{Ends, Legal};
-ghost use Rattle.zone_model.specs.Phases.{May, is_closing, left_in};
+ghost use Rattle.gen_marker.specs.Progress.{Ends as SliceEnds};
+ghost use Rattle.az_base.specs.declared.action.Mode.{Mode};
+ghost use Rattle.zone_model.specs.declared.call.Call.TheVariants as calls;
+ghost use Rattle.zone_model.specs.declared.entry.Reply.TheVariants as replies;
+ghost use Rattle.zone_model.specs.Phases.{Marking, May, is_closing, left_in};
 ghost use Rattle.zone_model.specs.State.{State, Cycle};
 ghost use Rattle.zone_model.specs.Stats.{stats_of};
+ghost use Rattle.heap_cycle.specs.Collector.{shade_in};
 ghost use Rattle.local_set.specs.LocalSets.{LocalSet};
 ghost use Rattle.zone_escape.specs.Publications.{LeavesCycle};
 ghost use Rattle.play_order.specs.Playing.{IsTold};
-ghost use Rattle.play_core.specs.Worlds.{AtEnd, IsQuiet, CyclesStay, Ascending, EachOnce, threads_in, local_of, waits_of, all_waiting, seen, is_running, Steps, Stops};
+ghost use Rattle.play_core.specs.Worlds.{AtEnd, IsQuiet, CyclesStay, Ascending, EachOnce, threads_in, local_of, waits_of, all_waiting, scanned, seen, is_running, Steps, Stops};
 ghost use Rattle.play_core.specs.Opening.{AreNew, opening_seen};
 ghost use Rattle.play_core.specs.Playing.{Turns, ends_among, ends_of, EndStops};
 
 use crate::turns::turn;
-use az_base::{NoMemory, Options, ThreadNo};
+use az_base::{NoMemory, Options, Steps as Ticks, ThreadNo};
+use gen_marker::Progress;
 use local_set::Local;
 use std::alloc::Global;
 use std::marker::Model;
+use std::sync::ledger::Ledger;
 use zone_escape::Core;
 use zone_history::Journal;
 use zone_model::{Call, Entry, Reply, Stats};
@@ -33,11 +40,15 @@ pub struct World {
 }
 
 impl Model for World {
+    ghost use Rattle.std.specs.Coded.{codes};
+    ghost use Rattle.heap_cycle.specs.Codes.{coded_collecting};
     ghost use Rattle.play_core.specs.Worlds.{WorldShown};
 
     ghost Value = { WorldShown };
 
-    ghost view = { λ w. record { options = w.core.heap.options; journal = w.core.journal.entries; locals = w.locals.items } };
+    ghost coded = { Prim.hlevel (codes, coded_collecting) };
+
+    ghost view = { λ w. record { options = w.core.heap.options; journal = w.core.journal.entries; locals = w.locals.items; cycle = w.core.heap.gc.cycle } };
 
     ghost use Rattle.play_core.specs.Inside.{IsWorld};
 
@@ -117,6 +128,8 @@ impl World {
         ensures ok { IfOk result (λ reply. Steps self.old self.new thread call.now reply) }
         ensures err { OnErr result (Stops (seen self.old) (seen self.new) thread) }
         ensures sure { is_closing call.now ≡ true → waits_of self.old thread ≡ [] → IsOk result }
+        // as a cycle begins no block is scanned
+        ensures white { (mode : Mode) → call.now ≡ calls.Begin mode → IfOk result (λ reply. reply ≡ replies.Begun → scanned self.new ≡ 0) }
         // a call that is no step of a cycle leaves the open one, and so does one that is busy or refused
         ensures cycle { IfOk result (λ reply. LeavesCycle call.now reply → CyclesStay self.old self.new) }
         ensures refused { OnErr result (CyclesStay self.old self.new) }
@@ -129,6 +142,31 @@ impl World {
             unreachable!();
         };
         turn(alloc, &mut self.locals[at], &mut self.core, call)
+    }
+
+    /// Marks in the thread's own open cycle, which isn't condemned: grey blocks are scanned, at most `budget`, one tick each.
+    /// More exactly where so many were scanned and a grey one is left. It takes no memory, and nothing but the shades of
+    /// blocks changes, which no state has. O(threads, budget, and edges of the scanned blocks).
+    pub fn slice<L: Ledger>(
+        &mut self,
+        thread: ThreadNo,
+        budget: u32,
+        ticks: &mut Ticks<L>,
+    ) -> Progress
+        requires running { is_running self.old thread ≡ true }
+        requires marking { AtEnd self.old (λ z. Marking z thread) }
+        requires budget { 1 ≤ budget }
+        ensures value { self.new ≡ record self.old { cycle = self.new.cycle } }
+        ensures ticks { ticks.new + scanned self.old ≡ ticks.old + scanned self.new }
+        ensures within { ticks.new ≤ ticks.old + budget }
+        ensures ends { IfSome self.new.cycle (λ g. SliceEnds result g.start (shade_in g) (ticks.new ≡ ticks.old + budget)) }
+    {
+        // the core is that of a state
+        let _options = self.core.options();
+        let Some(at) = place_of(&self.locals, thread) else {
+            unreachable!();
+        };
+        zone_escape::slice(&self.locals[at], &mut self.core, budget, ticks)
     }
 
     /// What was published, in its order. Followed by what waits of threads, each of them once and in any order, it is a

@@ -25,14 +25,36 @@
 //!   its id.
 //! - **It is associated** (`set_assoc`): under a key of another block, as one of that block's words would hold it.
 //! - **It is weakly shown** (`assign_weak`): that holds nothing, and who reads it holds it.
-//! - **It stays.** No call takes a block out: no cycle is opened yet.
+//! - **It goes** by `reclaim` alone, with its associations and its Weak words, and nobody holds it any more then.
 //!
 //! A call that must not be refused once blocks have escaped for it finds its room taken, by `ready`.
+//!
+//! # A cycle
+//!
+//! A collection is a few calls, and other threads make theirs between them. At most one cycle is open; its owner is the
+//! thread that began it. `cycle` tells the owner, and whether it is condemned.
+//!
+//! | call | who may make it | its reply |
+//! |---|---|---|
+//! | `begin` | who has no cycle open | Begun; Busy, where another thread's is open |
+//! | `mark_slice` | the owner, until it is condemned | More, where the budget ends before the grey blocks do; else Done |
+//! | `condemn` | the owner, until it is condemned | the condemned blocks: no weak location shows one any more |
+//! | `finalise_next` | the owner, while `to_finalise` isn't 0 | the block whose finaliser has run, the least that waited |
+//! | `reclaim` | the owner, condemned and with `to_finalise` 0 | the blocks that are gone, and the condemned ones that stay |
+//!
+//! Only `begin` may be refused: it takes the room for all of the cycle, and three lists beside (`lend_room`) for who copies
+//! the replies. A slice is no entry of a history, and the heap stands for the same states after it; each of the others is a
+//! step.
+//!
+//! Meanwhile the other calls tell the cycle what they do, and their clause `gc` says of which blocks. While it marks, a block
+//! is enlivened that is stored, put into a root, associated or read weakly, or to which a word of an escaping block refers;
+//! none that is loaded, taken or retained. `heap_cycle` says what becomes of blocks in each phase.
 //!
 //! # Parts
 //!
 //! - The tables of the escaped blocks, the roots, the counts and the associations are those of `heap_tables`, which a
 //!   collection walks.
+//! - The open cycle, and what it is told, are those of `heap_cycle`.
 //! - `Heap` adds the weak locations, the options and how many finalisers wait.
 //! - `laws` has theorems over heaps and states: what callers may rest on without knowing how a heap keeps things.
 //!

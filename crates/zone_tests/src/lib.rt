@@ -2,6 +2,12 @@
 #![tactic(auto)]
 
 #[cfg(test)]
+mod collections;
+#[cfg(test)]
+mod heap_rows;
+#[cfg(test)]
 mod tests;
+#[cfg(test)]
+mod thread_rows;
 #[cfg(test)]
 mod threads;

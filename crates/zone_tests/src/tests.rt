@@ -25,7 +25,7 @@ fn source(alloc: Global, script: &[u8], failing: u64) -> Result<MemorySource, Fa
 }
 
 /// A sink that takes ten bytes at each turn, and fails at this one, where it isn't 0.
-fn sink(alloc: Global, failing: u64) -> Result<MemorySink, Fail> {
+pub fn sink(alloc: Global, failing: u64) -> Result<MemorySink, Fail> {
     let turns = vec![in alloc; failing]?;
     match MemorySink::new(alloc, 10, turns, 200_000) {
         Ok(sink) => Ok(sink),
@@ -119,6 +119,29 @@ fn is_usage(rt: &HostRuntime, words: &[&str]) -> Result<bool, Fail> {
     ends(rt, given, end)
 }
 
+/// The run of these words, in which nothing is to be read.
+fn words_run<'a>(words: &'a [&'a str]) -> Invocation<'a> {
+    Invocation {
+        words,
+        failing_read: 1,
+        ..script_run(FIRST.as_bytes())
+    }
+}
+
+/// Whether these words end with Done, and nothing is said.
+pub fn written(rt: &HostRuntime, words: &[&str], out: &mut MemorySink) -> Result<bool, Fail> {
+    let mut err = sink(rt.alloc(), 0)?;
+    let status = run(rt, words_run(words), out, &mut err)?;
+    Ok(status == Status::Done && err.bytes().is_empty())
+}
+
+/// Whether these words write this text.
+pub fn is_written(rt: &HostRuntime, words: &[&str], text: &str) -> Result<bool, Fail> {
+    let mut out = sink(rt.alloc(), 0)?;
+    let done = written(rt, words, &mut out)?;
+    Ok(done && out.bytes() == text.as_bytes())
+}
+
 /// Whether the read of this turn is said to have failed.
 fn read_fails(rt: &HostRuntime, turn: u64) -> Result<bool, Fail> {
     let given = Invocation {
@@ -182,7 +205,7 @@ fn first_scripts(rt: HostRuntime) -> Result<(), Fail> {
 
 #[test]
 fn other_words_are_wrong_usage(rt: HostRuntime) -> Result<(), Fail> {
-    let rows: [&[&str]; 24] = [
+    let rows: [&[&str]; 29] = [
         &[],
         &[""],
         &["Play"],
@@ -202,14 +225,54 @@ fn other_words_are_wrong_usage(rt: HostRuntime) -> Result<(), Fail> {
         &["play", "1", "2", "3"],
         &["run"],
         &["soak"],
+        &["soak", "7"],
         &["soak", "0", "0"],
+        &["soak", "7", "0"],
         &["soak", "0", "65537"],
+        &["soak", "7", "65537"],
         &["soak", "18446744073709551616", "1"],
         &["soak", "7", "1", "1"],
         &["soak", "7", "-1"],
+        &["soak", "", "1"],
+        &["soak", "+", "1"],
     ];
     for words in &rows {
         assert!(rt; is_usage(&rt, words)?);
+    }
+    Ok(())
+}
+
+// What the first numbers after each start say is told apart from the program.
+#[test]
+fn generated_scripts_are_summed_up(rt: HostRuntime) -> Result<(), Fail> {
+    let rows: [(&[&str], &str); 6] = [
+        (
+            &["soak", "0", "1"],
+            "soak 0 1 entries 2 reclaimed 1 misuses 0\nend entries 2 blocks 0 quanta 0 retained 0 weak 0 assocs 0\n",
+        ),
+        (
+            &["soak", "0", "3"],
+            "soak 0 3 entries 4 reclaimed 2 misuses 0\nend entries 4 blocks 0 quanta 0 retained 0 weak 0 assocs 0\n",
+        ),
+        (
+            &["soak", "7", "1"],
+            "soak 7 1 entries 2 reclaimed 0 misuses 1\nend entries 2 blocks 0 quanta 0 retained 0 weak 0 assocs 0\n",
+        ),
+        (
+            &["soak", "+7", "1"],
+            "soak 7 1 entries 2 reclaimed 0 misuses 1\nend entries 2 blocks 0 quanta 0 retained 0 weak 0 assocs 0\n",
+        ),
+        (
+            &["soak", "007", "+01"],
+            "soak 7 1 entries 2 reclaimed 0 misuses 1\nend entries 2 blocks 0 quanta 0 retained 0 weak 0 assocs 0\n",
+        ),
+        (
+            &["soak", "18446744073709551615", "1"],
+            "soak 18446744073709551615 1 entries 2 reclaimed 0 misuses 0\nend entries 2 blocks 0 quanta 0 retained 0 weak 0 assocs 0\n",
+        ),
+    ];
+    for (words, text) in &rows {
+        assert!(rt; is_written(&rt, words, text)?);
     }
     Ok(())
 }
@@ -405,6 +468,22 @@ fn weak_locations(rt: HostRuntime) -> Result<(), Fail> {
     Ok(())
 }
 
+/// A sink of so many bytes, which takes 4,096 at each turn.
+fn large_sink(alloc: Global, room: usize) -> Result<MemorySink, Fail> {
+    match MemorySink::new(alloc, 4096, Vec::new(alloc), room) {
+        Ok(sink) => Ok(sink),
+        Err(_) => Err(Fail::from("no memory")),
+    }
+}
+
+/// Whether the script is played, and its text, which has so many bytes at most, ends so.
+pub fn text_ends(rt: &HostRuntime, script: &str, room: usize, text: &str) -> Result<bool, Fail> {
+    let mut out = large_sink(rt.alloc(), room)?;
+    let mut err = sink(rt.alloc(), 0)?;
+    let status = run(rt, script_run(script.as_bytes()), &mut out, &mut err)?;
+    Ok(status == Status::Done && out.bytes().ends_with(text.as_bytes()) && err.bytes().is_empty())
+}
+
 /// Whether a tree of 1,000 blocks escapes whole.
 fn tree_escapes(rt: &HostRuntime) -> Result<bool, Fail> {
     let mut script = String::new(rt.alloc());
@@ -414,10 +493,7 @@ fn tree_escapes(rt: &HostRuntime) -> Result<bool, Fail> {
         )?;
     }
     script.push_str("1 stats\n1 setroot g0 r0\n1 stats\n")?;
-    let mut out = sink(rt.alloc(), 0)?;
-    let mut err = sink(rt.alloc(), 0)?;
-    let status = run(rt, script_run(script.as_bytes()), &mut out, &mut err)?;
-    Ok(status == Status::Done && out.bytes().ends_with(TREE_TEXT.as_bytes()))
+    text_ends(rt, script.as_str(), 200_000, TREE_TEXT)
 }
 
 const TREE_TEXT: &str =
@@ -449,7 +525,7 @@ fn scripts_are_refused(rt: HostRuntime) -> Result<(), Fail> {
         (b"1 mark\n", "autozone: line 1: NoCall\n"),
         (b"1 stats now\n", "autozone: line 1: TooManyArguments\n"),
         (
-            b"1 new r0 object SP keep g3\n",
+            b"1 new r0 object SP more\n",
             "autozone: line 1: TooManyArguments\n",
         ),
         (b"1 stats\noption heap 1\n", "autozone: line 2: NoThread\n"),

@@ -1,10 +1,7 @@
 use Rattle.std.proofs.Common.{refl, sym, subst}
 use Rattle.zone_model.specs.declared.call.Call.TheVariants as call
 use Rattle.zone_model.specs.declared.entry.Reply.{Reply}
-use Rattle.zone_model.specs.declared.entry.Reply.TheVariants as reply
-use Rattle.local_set.specs.Calls.{entry_of}
 use Rattle.zone_escape.specs.Publications.{LeavesCycle}
-use Rattle.play_core.specs.Collecting.{Publishes}
 use Rattle.play_core.proofs.Cycles.{quiet_still}
 use Rattle.play_core.proofs.Collections.{published, begun_marks, begun_is, begun_collects, may_reclaim, reclaimed_quiet}
 use Rattle.play_core.proofs.collecting.collect.Goals as goal

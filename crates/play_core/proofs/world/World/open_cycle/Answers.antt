@@ -1,5 +1,5 @@
 use Rattle.std.proofs.Common.{◌≡◌, option_map}
-use Rattle.zone_model.specs.State.{State, Cycle}
+use Rattle.zone_model.specs.State.{Cycle}
 use Rattle.play_core.proofs.Stepping.{at_end}
 use Rattle.play_core.proofs.world.World.open_cycle.Goals as goal
 

@@ -1,6 +1,5 @@
 use Rattle.std.proofs.Common.{◌≡◌}
 use Rattle.zone_model.specs.Phases.{left_in}
-use Rattle.zone_model.specs.State.{State}
 use Rattle.play_core.proofs.Stepping.{at_end}
 use Rattle.play_core.proofs.world.World.to_finalise.Goals as goal
 
