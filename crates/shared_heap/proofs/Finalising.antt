@@ -27,7 +27,8 @@ use Rattle.shared_heap.specs.Stands.{Stands, SameCycle}
 use Rattle.shared_heap.specs.Steps.{Stepped}
 use Rattle.block_table.specs.Stored.{HeapBlock}
 use Rattle.shared_heap.proofs.Collecting.{seen_same, state_cycle}
-use Rattle.shared_heap.proofs.Standing.{edit_get, get_set}
+use Rattle.heap_tables.proofs.Edited.{edit_get}
+use Rattle.shared_heap.proofs.Standing.{get_set}
 use Rattle.shared_heap.proofs.Stepping.{same_word}
 
 some_same : {X : Type 0} (x y : X) → Some x ≡ Some y → x ≡ y

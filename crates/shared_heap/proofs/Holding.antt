@@ -18,7 +18,7 @@ use Rattle.block_table.specs.Holds.{Holds, times, with_times}
 use Rattle.shared_heap.specs.Shared.{Shared, held, holding, holding_more, admitted, with_birth, IsFresh}
 use Rattle.shared_heap.specs.Steps.{names}
 use Rattle.shared_heap.proofs.Counts.{tied}
-use Rattle.shared_heap.proofs.Standing.{edit_get}
+use Rattle.heap_tables.proofs.Edited.{edit_get}
 use Rattle.az_base.proofs.Ids.{same_turned}
 
 -- after one thread's number was set

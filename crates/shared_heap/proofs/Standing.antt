@@ -1,11 +1,11 @@
 -- How changes of a heap are changes of the states for which it stands
 use Rattle.std.proofs.Common.{◌≡◌, ℕ, ◌-◌, ◌<◌, ◌==◌, Bool, true, false, cond, List, [], ◌∷◌, Option, Some, None, get_or, min, length, replicate, slice_set, zero, suc, refl, sym, ap, ◌∙◌, arith}
 use Rattle.std.proofs.lemmas.Bool.Decides.{nat_tests}
-use Rattle.std.specs.Option.{option_map, option_map_or}
+use Rattle.std.specs.Option.{option_map}
 use Rattle.std.specs.declared.cmp.Ordering.{Ordering}
 use Rattle.std.specs.declared.cmp.Ordering.TheVariants.{Less, Equal, Greater}
 use Rattle.std.specs.Ordering.{is_eq}
-use Rattle.std.specs.FinMap.{FinMap, get, insert, get-empty, get-insert}
+use Rattle.std.specs.FinMap.{FinMap, get, get-empty, get-insert}
 use Rattle.az_base.specs.declared.action.Action.{Action}
 use Rattle.az_base.specs.declared.block_id.BlockId.{BlockId}
 use Rattle.az_base.specs.declared.options.Options.{Options}
@@ -14,7 +14,7 @@ use Rattle.az_base.specs.Ids.{id_cmp, same_id, id_of, ids_total, exact_ids}
 use Rattle.block_layouts.specs.declared.layout.Layout.{Layout}
 use Rattle.block_layouts.specs.Layouts.{first_words}
 use Rattle.zone_model.proofs.MapLaws.{get-map_values}
-use Rattle.zone_model.specs.State.{State, Block, moment, with_edit, with_root, with_word, with_register, opening}
+use Rattle.zone_model.specs.State.{State, Block, moment, with_root, with_word, with_register, opening}
 use Rattle.zone_model.specs.Escape.{with_escaped}
 use Rattle.zone_model.specs.Effect.{new_block, with_new}
 use Rattle.zone_model.specs.Quanta.{is_born_escaped}
@@ -27,6 +27,7 @@ use Rattle.shared_heap.specs.Stands.{Stands}
 use Rattle.shared_heap.specs.Steps.{IsUnescaped}
 use Rattle.shared_heap.proofs.Collecting.{seen_same}
 use Rattle.az_base.proofs.Ids.{same_turned}
+use Rattle.heap_tables.proofs.Edited.{edit_get}
 
 nulls : (n g : ℕ) → get_or (replicate n (let o : Option BlockId = None in o)) g None ≡ None
 nulls zero g = refl
@@ -82,28 +83,6 @@ root_stands h z g v all l s = record {
   weak = s.weak;
   cycle = s.cycle;
 }
-
--- a map after an edit
-pub edit_get : {X : Type 0} (m : FinMap id_cmp X) (id : BlockId) (f : X → X) (q : BlockId) → get (with_edit m id f) q ≡ cond (same_id q id) (option_map f (get m q)) (get m q)
-edit_get {X} m id f q = go (get m id) refl
-  where
-    one_of : (b : Bool) → get m q ≡ cond b (get m q) (get m q)
-    one_of true = refl
-    one_of false = refl
-
-    go : (o : Option X) → get m id ≡ o → get (option_map_or (λ x. insert m id (f x)) o m) q ≡ cond (same_id q id) (option_map f (get m q)) (get m q)
-    go None e = at (id_cmp q id) refl
-      where
-        at : (r : Ordering) → id_cmp q id ≡ r → get m q ≡ cond (is_eq r) (option_map f (get m q)) (get m q)
-        at Less d = refl
-        at Equal d = let none : get m q ≡ None = ap (get m) (exact_ids q id d) ∙ e in none ∙ sym (ap (option_map f) none)
-        at Greater d = refl
-    go (Some x) e = get-insert ids_total m id (f x) q ∙ at (id_cmp q id) refl
-      where
-        at : (r : Ordering) → id_cmp q id ≡ r → cond (is_eq r) (Some (f x)) (get m q) ≡ cond (is_eq r) (option_map f (get m q)) (get m q)
-        at Less d = refl
-        at Equal d = sym (ap (option_map f) (ap (get m) (exact_ids q id d) ∙ e))
-        at Greater d = refl
 
 -- an edit of the words is one of what the heap keeps
 pub word_stands : (h : Shared) (z : State) (id : BlockId) (at : ℕ) (w : Word) → Stands h z → Stands (written h (Some id) at w) (with_word z (Some id) at w)
