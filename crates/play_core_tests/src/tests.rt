@@ -23,7 +23,7 @@ fn makes(alloc: Global, world: &mut World, thread: ThreadNo, call: &Call) -> boo
 }
 
 /// Whether no cycle is open, and the threads that are left leave.
-fn closes(alloc: Global, world: &mut World) -> bool {
+pub(crate) fn closes(alloc: Global, world: &mut World) -> bool {
     if world.open_cycle().is_some() {
         return false;
     }

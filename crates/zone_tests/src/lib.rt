@@ -4,6 +4,10 @@
 #[cfg(test)]
 mod collections;
 #[cfg(test)]
+mod finaliser_rows;
+#[cfg(test)]
+mod generation_rows;
+#[cfg(test)]
 mod heap_rows;
 #[cfg(test)]
 mod tests;
