@@ -1,0 +1,11 @@
+pub mod Later
+pub mod Cycling
+pub mod CoreStates
+pub mod Slicing
+pub mod Places
+pub mod Locally
+pub mod Turning
+pub mod Closing
+pub mod Meeting
+pub mod Seats
+pub mod Going
