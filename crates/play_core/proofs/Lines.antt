@@ -23,12 +23,12 @@ use Rattle.zone_model.specs.Replies.{SameButRoom}
 use Rattle.zone_model.specs.State.{State, opening}
 use Rattle.zone_model.specs.Stats.{stats_of}
 use Rattle.zone_escape.specs.Publications.{is_leave, LeavesCycle}
-use Rattle.zone_history.specs.Histories.{Request, is_asked}
+use Rattle.zone_history.specs.Histories.{Request, IsHistoryOf, is_asked}
 use Rattle.local_set.specs.LocalSets.{LocalSet}
 use Rattle.play_order.specs.Play.{IsPlayOf, leaves, threads_of}
 use Rattle.play_order.specs.Playing.{Seen, SoFar}
 use Rattle.play_order.proofs.Playing.{so_far_none, so_far_all}
-use Rattle.play_order.proofs.Rooms.{play_alike}
+use Rattle.play_order.proofs.Rooms.{history_alike, play_alike}
 use Rattle.play_core.specs.Opening.{opening_seen}
 use Rattle.play_core.specs.Playing.{requests, CanPlay, Turns, ends_of}
 use Rattle.play_core.specs.Worlds.{WorldShown, AtEnd, IsQuiet, CyclesStay, threads_in, seen, is_running, Steps, IsBelow, Ascending}
@@ -208,6 +208,10 @@ all_bare (e ∷ es) = ap₂ (λ r fs. (let x : Entry = record { thread = e.threa
 -- the history has its entries with their room
 pub with_room : (o : Options) (rs : List Request) (journal es : List Entry) (stats : Stats) → map bare_entry es ≡ journal → IsPlayOf o rs journal stats → IsPlayOf o rs es stats
 with_room o rs journal es stats is play = play_alike o rs journal es stats (subst (λ j. SameButRoom j es) is (all_bare es)) play
+
+-- the same of a history
+pub history_with_room : (o : Options) (rs : List Request) (journal es : List Entry) (stats : Stats) → map bare_entry es ≡ journal → IsHistoryOf o rs journal stats → IsHistoryOf o rs es stats
+history_with_room o rs journal es stats is h = history_alike o rs journal es stats (subst (λ j. SameButRoom j es) is (all_bare es)) h
 
 -- the options stay
 pub options_of : (w after : WorldShown) (rs : List Request) (o : Options) (r : Result Stats NoMemory) → w.options ≡ o → OnOk r (Turns (seen w) rs (seen after)) → OnOk r (after.options ≡ o)

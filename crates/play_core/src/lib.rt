@@ -25,5 +25,5 @@ mod playing;
 mod turns;
 mod world;
 
-pub use playing::{Recording, play};
+pub use playing::{Recording, play, threads_of};
 pub use world::World;

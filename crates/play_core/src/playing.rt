@@ -42,7 +42,7 @@ fn add_asked(threads: &mut Vec<ThreadNo>, lines: &[Line], thread: ThreadNo) -> R
 }
 
 /// The threads that are asked for something, ascending. O(lines).
-fn threads_of(alloc: Global, lines: &[Line]) -> Result<Vec<ThreadNo>, NoMemory>
+pub fn threads_of(alloc: Global, lines: &[Line]) -> Result<Vec<ThreadNo>, NoMemory>
     ensures { IfOk result (λ threads. threads.items ≡ asked_threads (requests lines.now)) }
 {
     let mut threads = Vec::new(alloc);

@@ -17,13 +17,13 @@ use Rattle.zone_model.specs.declared.entry.Stats.{Stats}
 use Rattle.zone_model.specs.Bare.{bare_reply, bare_entry}
 use Rattle.zone_model.specs.Effect.{Effect}
 use Rattle.zone_model.specs.Escape.{with_escaped}
-use Rattle.zone_model.specs.History.{Run, IsGroup, IsRefused, IsCollection, calls_of}
+use Rattle.zone_model.specs.History.{Run, IsGroup, IsRefused, IsCollection, Matches, calls_of, entries_of}
 use Rattle.zone_model.specs.Misuses.{misuse_of}
 use Rattle.zone_model.specs.Part.{Part, part_after, leave_part, PartStep, PartRun, Solo, opening_part}
 use Rattle.zone_model.specs.Replies.{replied, SameButRoom}
-use Rattle.zone_model.specs.State.{State}
+use Rattle.zone_model.specs.State.{State, opening}
 use Rattle.zone_model.specs.Step.{Step, Happens}
-use Rattle.zone_history.specs.Histories.{Request}
+use Rattle.zone_history.specs.Histories.{Request, IsHistoryOf, asked_of}
 use Rattle.play_order.specs.Places.{Played, Placed, waiting, publishes, publisher, place, placed, entries_at, entries_below}
 use Rattle.play_order.specs.Play.{IsTurn, AreTurns, IsPlayOf, own_entries, with_leaves}
 
@@ -383,3 +383,35 @@ play_alike o requests one other stats same p =
       turns = turns_alike o [] [] (with_leaves requests) p.lines lines tt alike p.turns;
       ordered = sym (ap₂ (λ (m : ℕ) ps. entries_below m ps) (length_alike p.lines lines alike) (placed_alike o.pending [] [] p.lines f.ys tt f.alike) ∙ f.below);
     }
+
+matches_alike : (acts : List Act) (es fs : List Entry) → SameButRoom es fs → Matches es acts → Matches fs acts
+matches_alike [] es fs same h = sym (calls_alike es fs same) ∙ h
+matches_alike (a ∷ acts) es fs same h =
+    let s = split_alike h.0 h.1 fs (subst (λ xs. SameButRoom xs fs) h.2 same) in
+    (s.0, s.1, s.2, group_alike a h.0 s.0 s.3 h.3, matches_alike acts h.1 s.1 s.4 h.4)
+
+entries_alike : (t : ℕ) (es fs : List Entry) → SameButRoom es fs → SameButRoom (entries_of t es) (entries_of t fs)
+entries_alike t [] [] same = refl
+entries_alike t [] (f ∷ fs) same = absurd (no_head f fs (sym same))
+entries_alike t (e ∷ es) [] same = absurd (no_head e es same)
+entries_alike t (e ∷ es) (f ∷ fs) same = let i = heads e f es fs same in by i.0 (entries_alike t es fs i.1) (e.thread == t) (f.thread == t) (ap (λ (x : Entry). x.thread == t) i.0)
+  where
+    by : bare_entry e ≡ bare_entry f → SameButRoom (entries_of t es) (entries_of t fs) → (a b : Bool) → a ≡ b → SameButRoom (cond a (e ∷ entries_of t es) (entries_of t es)) (cond b (f ∷ entries_of t fs) (entries_of t fs))
+    by head rest true true k = ap₂ (λ x w. x ∷ w) head rest
+    by head rest true false k = cc (k)
+    by head rest false true k = cc (k)
+    by head rest false false k = rest
+
+none_alike : (es fs : List Entry) → SameButRoom es fs → es ≡ [] → fs ≡ []
+none_alike es [] same none = refl
+none_alike es (f ∷ fs) same none = absurd (no_head f fs (sym (subst (λ xs. SameButRoom xs (f ∷ fs)) none same)))
+
+-- nor does a history of what threads are asked for
+pub history_alike : (o : Options) (requests : List Request) (es fs : List Entry) (stats : Stats) → SameButRoom es fs → IsHistoryOf o requests es stats → IsHistoryOf o requests fs stats
+history_alike o requests es fs stats same h = record {
+  last = h.last;
+  legal = run_alike (opening o) es fs h.last same h.legal;
+  counted = h.counted;
+  own = λ t has. matches_alike (asked_of requests t) (entries_of t es) (entries_of t fs) (entries_alike t es fs same) (h.own t has);
+  others = λ t none. none_alike (entries_of t es) (entries_of t fs) (entries_alike t es fs same) (h.others t none);
+}

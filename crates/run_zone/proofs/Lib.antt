@@ -1,0 +1,4 @@
+pub mod Working
+pub mod Collecting
+pub mod Dealt
+pub mod Each
