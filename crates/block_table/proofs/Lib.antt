@@ -10,3 +10,5 @@ pub mod Words
 pub mod Positions
 pub mod Comings
 mod Results
+pub mod Fronts
+pub mod Visits

@@ -1,5 +1,5 @@
 use Rattle.std.proofs.Common.{ap, ◌∙◌}
-use Rattle.heap_tables.proofs.Fronts.{in_whole, shaded_one}
+use Rattle.block_table.proofs.Fronts.{in_whole, shaded_one}
 use Rattle.block_table.specs.Table.{Table, shades_in}
 use Rattle.heap_tables.proofs.graph.TablesGraph.set_shade.Goals as goal
 
