@@ -10,3 +10,4 @@ pub mod Fewer
 pub mod Referring
 pub mod Marks
 pub mod Unmarked
+pub mod Leaving

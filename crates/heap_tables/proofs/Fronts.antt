@@ -1,15 +1,18 @@
--- The front of a list, and one shade that is set
+-- The front of a list
 use Rattle.std.proofs.Common.{◌≡◌, ℕ, zero, suc, ◌<◌, nat_lt, List, [], ◌∷◌, Some, None, take, drop, slice_get, refl, sym, ap, ◌∙◌, arith, IsTrue, ◌+◌}
 use Rattle.std.proofs.lemmas.Bool.Decides.{nat_tests}
 use Rattle.az_base.specs.declared.block_id.BlockId.{BlockId}
-use Rattle.quantum_space.specs.Shapes.{Once}
-use Rattle.block_table.proofs.Fronts.{in_whole}
+use Rattle.quantum_space.specs.Shapes.{Has, Once}
+use Rattle.block_table.proofs.Fronts.{in_whole as whole_has}
 
 pub tests_lt : (n m : ℕ) → IsTrue (nat_lt n m) → n < m
 tests_lt n m t = grind (arith, nat_tests)
 
 pub lt_tests : (n m : ℕ) → n < m → IsTrue (nat_lt n m)
 lt_tests n m l = grind (arith, nat_tests)
+
+pub in_whole : (xs : List BlockId) (m : ℕ) (b : BlockId) → Has (take m xs) b → Has xs b
+in_whole xs m b h = whole_has xs m b h
 
 pub once_take : (xs : List BlockId) (m : ℕ) → Once xs → Once (take m xs)
 once_take [] zero o = tt
