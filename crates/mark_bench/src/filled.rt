@@ -39,10 +39,12 @@ impl Filled for SpaceGraph {
         if self.has(id) {
             return Err(AllocError);
         }
-        match self.add(id, layout) {
-            Ok(()) => Ok(()),
-            Err(_) => Err(AllocError),
-        }
+        self.unreserve();
+        let Ok(()) = self.reserve(&[layout.len()]) else {
+            return Err(AllocError);
+        };
+        let _ = self.put(id, layout);
+        Ok(())
     }
 
     fn link(&mut self, id: BlockId, ends: Ends) {

@@ -92,7 +92,7 @@ follow_step v g is inv whole m x from stack new onto (Some j) h =
 
 -- a word that knows more
 module _ (s : Space') (x : Spot) (i : ℕ) (w : PlacedWord) where
-  word_byte : (y : Spot) → byte_in (with_word_in s x i w) y ≡ byte_in s y
+  pub word_byte : (y : Spot) → byte_in (with_word_in s x i w) y ≡ byte_in s y
   word_byte y = go x.kind y.kind
     where
       go : (k j : Kind) → get_or (region (with_region s k (with_word (region s k) x.at i w)) j).map.bytes y.at 0 ≡ get_or (region s j).map.bytes y.at 0
