@@ -11,3 +11,4 @@ pub mod Referring
 pub mod Marks
 pub mod Unmarked
 pub mod Leaving
+pub mod Written

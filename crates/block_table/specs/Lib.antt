@@ -4,3 +4,4 @@ pub mod Places
 pub mod Table
 pub mod Codes
 pub mod Marking
+pub mod Lying

@@ -22,9 +22,9 @@
 #![tactic(auto)]
 
 mod holders;
+mod kept;
 mod marking;
-mod reserved;
-mod stored;
+mod reading;
 mod table;
 
 pub use table::BlockTable;

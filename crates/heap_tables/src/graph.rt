@@ -124,19 +124,10 @@ impl Graph for Tables {
     }
 
     fn shade_nth(&mut self, n: u32, s: Shade) {
-        if n < self.blocks.began() {
-            self.blocks.set_nth_shade(n, s);
-        }
+        self.blocks.shade_nth(n, s);
     }
 
     fn left(&self, n: u32, mode: Mode) -> Option<BlockId> {
-        let Some(id) = self.block(n) else {
-            return None;
-        };
-        if self.blocks.nth_is_left(n, mode) {
-            Some(id)
-        } else {
-            None
-        }
+        self.blocks.left(n, mode)
     }
 }

@@ -111,6 +111,7 @@ put_black s mid new id l x more left e = subst (λ (y : Space'). IsPut s y id l 
   its_id = id_same mid to x same ∙ more.its_id;
   used = subst (λ n. 128 ≤ n) (sym here) (shaded_used shade.Black (byte_in mid x) (let b = more.byte in omega (arith, b)));
   black = ap shade_told here ∙ shade_shaded shade.Black (byte_in mid x);
+  byte = here ∙ ap (shaded shade.Black) more.byte;
   others = λ y o h. (let q = more.others y o h in record {
     layout = layout_same mid to y same ∙ q.layout;
     id = id_same mid to y same ∙ q.id;

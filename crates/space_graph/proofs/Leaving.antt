@@ -229,6 +229,7 @@ taken_out v g is id rows new n fewer out all gone = subst (λ (y : Graph'). IsTa
   rows = out;
   others = gone.others;
   only = gone.only;
+  gone = gone.gone;
   began = all;
   spare = gone.spare;
   fewer = fewer;

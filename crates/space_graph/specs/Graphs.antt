@@ -110,6 +110,7 @@ pub record IsPut (s new : Space') (id : BlockId) (l : Layout) (x : Spot) : Type 
   pub its_id : id_in new x ≡ id
   pub used : 128 ≤ byte_in new x
   pub black : shade_told (byte_in new x) ≡ shade.Black
+  pub byte : byte_in new x ≡ 130
   pub others : (y : Spot) (o : Layout) → layout_in s y ≡ Some o → IsSameIn s new y o
   pub only : (y : Spot) (o : Layout) → layout_in new y ≡ Some o → (y ≡ x) ⊎ (layout_in s y ≡ Some o)
   pub spare : new.spare ≡ drop 1 s.spare
@@ -168,6 +169,7 @@ pub record IsTakenOut (old : Graph') (id : BlockId) (new : Graph') : Type 0 wher
   pub rows : (q : BlockId) → spot_for new.rows q ≡ (if id_eq id q then None else spot_for old.rows q)
   pub others : (y : Spot) (o : Layout) → spot_for old.rows id ≢ Some y → layout_in old.space y ≡ Some o → IsSameIn old.space new.space y o
   pub only : (y : Spot) (o : Layout) → layout_in new.space y ≡ Some o → layout_in old.space y ≡ Some o
+  pub gone : (y : Spot) → spot_for old.rows id ≡ Some y → layout_in new.space y ≡ None
   pub began : new.began ≡ length new.rows
   pub spare : new.space.spare ≡ old.space.spare
   pub fewer : length new.rows ≤ length old.rows

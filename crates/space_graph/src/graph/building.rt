@@ -38,6 +38,8 @@ impl SpaceGraph {
         ensures rows { result.rows ≡ [] }
         ensures anchors { result.anchors ≡ [] }
         ensures remembered { result.remembered ≡ [] }
+        ensures began { result.began ≡ 0 }
+        ensures spare { result.space.spare ≡ [] }
     {
         SpaceGraph {
             rows: Rows::new(alloc),

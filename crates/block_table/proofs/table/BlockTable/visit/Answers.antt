@@ -1,16 +1,12 @@
-use Rattle.std.proofs.Common.{ap, sym, ◌∙◌, arith}
-use Rattle.block_table.specs.Table.{Table}
-use Rattle.block_table.proofs.Fronts.{in_whole}
-use Rattle.block_table.proofs.Visits.{not_visited, behind_front, visited}
+use Rattle.std.proofs.Common.{is_some}
+use Rattle.block_table.proofs.Marked.{marked_lying, rest_is, visits_are}
 use Rattle.block_table.proofs.table.BlockTable.visit.Goals as goal
 
-pub returns-in_default-clause-visits : goal.returns-in_default-clause-visits
-returns-in_default-clause-visits c = not_visited c.args.mode c.args.self.now c.args.id (λ h. c.in_default.ensures (in_whole c.args.self.now.order c.args.self.now.began c.args.id h))
-
-pub returns-then-n-began-clause-visits : goal.returns-then-n-began-clause-visits
-returns-then-n-began-clause-visits c = not_visited c.args.mode c.args.self.now c.args.id (behind_front c.args.self.now c.args.id c.in-Some.n c.in-Some.ensures (let t = c.if-n-began.true in let e = c.began.ensures in omega (arith, t, e)))
+pub invariant_of-self : goal.invariant_of-self
+invariant_of-self c = marked_lying c.self.inside.graph c.visit.new.self _ _ _ c.visit.ensures.rest c.self.invariant
 
 pub returns-clause-visits : goal.returns-clause-visits
-returns-clause-visits c =
-    visited c.args.mode c.args.self.now c.args.id c.in-Some.n c.set_nth_shade.new.self.shades c.in-Some.ensures.0 (let t = c.if-n-began.false in let e = c.began.ensures in omega (arith, t, e))
-    (sym c.if-not-nth_is_left.false ∙ c.nth_is_left.ensures) (ap (λ (b : Table). b.shades) c.set_nth_shade.ensures)
+returns-clause-visits c = visits_are _ c.self.inside.graph c.self.inside.kept.entries c.self.view_is c.visit.new.self c.visit.ensures.rest c.args.mode c.args.id (is_some c.visit.result) c.visit.ensures.visits
+
+pub returns-clause-rest : goal.returns-clause-rest
+returns-clause-rest c = rest_is _ c.self.inside.graph c.self.inside.kept.entries c.self.view_is c.visit.new.self c.visit.ensures.rest

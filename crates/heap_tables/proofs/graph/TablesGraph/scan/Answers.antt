@@ -5,14 +5,13 @@ use Rattle.quantum_space.specs.Shapes.{VisitsAll}
 use Rattle.block_table.specs.Marking.{graph_in, marks_in}
 use Rattle.block_table.specs.Places.{somes, in_word}
 use Rattle.block_table.specs.Table.{Table, refs_in, words_in}
-use Rattle.block_table.proofs.Fronts.{in_whole}
 use Rattle.block_table.proofs.Somes.{somes_append}
 use Rattle.block_table.proofs.Visits.{all_alike, visits_both}
 use Rattle.heap_tables.specs.Graphs.{graph_of, value_of}
 use Rattle.heap_tables.proofs.graph.TablesGraph.scan.Goals as goal
 
 pub scan-requires : goal.scan-requires
-scan-requires c = in_whole c.args.self.now.blocks.order c.args.self.now.blocks.began c.args.id c.requires
+scan-requires c = c.requires
 
 pub returns-clause-scans : goal.returns-clause-scans
 returns-clause-scans c =
