@@ -273,8 +273,22 @@ impl BlockTable {
         ensures { result ≡ option_map_or (is_held_in self.now.holds) (slice_get self.now.order n) false }
     {
         match self.graph.nth(n) {
-            Some(id) => self.is_held(id),
+            Some(id) => self.is_held_near(id, n),
             None => false,
+        }
+    }
+
+    /// Whether a thread holds the block. It isn't looked up where what is kept of it stands at the position.
+    fn is_held_near(&self, id: BlockId, n: u32) -> bool
+        ensures { result ≡ is_held_in self.now.holds id }
+    {
+        let Some((key, kept)) = self.kept.get_index(n as usize) else {
+            return self.is_held(id);
+        };
+        if *key == id {
+            kept.is_held()
+        } else {
+            self.is_held(id)
         }
     }
 
