@@ -3,7 +3,7 @@
 blocks in lists by serial.
 
 bench/marks.py wants the program at crates/mark_bench/out/mark_bench, which `rt run` in crates/mark_bench makes, and rustc.
-All mark the same graphs of blocks of two words, in turns: each runs five times for 300 milliseconds of processor time. It
+All mark the same graphs of blocks of two words, in turns: each runs three times for a second of processor time. It
 prints how many million blocks a second each marks, by the least time of a pass, and what a begin and a finish take over the
 tables and over a space."""
 import os
@@ -13,8 +13,8 @@ import tempfile
 
 TOP = os.path.dirname(os.path.dirname(os.path.abspath(__file__)))
 PROGRAM = os.path.join(TOP, "crates", "mark_bench", "out", "mark_bench")
-ROUNDS = 5
-MILLIS = 300
+ROUNDS = 3
+MILLIS = 1_000
 
 
 def times(command, line):
