@@ -24,7 +24,7 @@ none_less s = record { gone = λ p c. absurd (omega (arith, c.1)); others = λ q
 pub take_more : (ps : List Place) (j : ℕ) (d : Place) → j < length ps → take (j + 1) ps ≡ take j ps ++ get_or ps j d ∷ []
 take_more ps j d l = (let e : j + 1 ≡ suc j = omega arith in ap (λ n. take n ps) e ∙ take-suc ps j d l)
 
-only_one : (p q : Place) (k : ℕ) → k < length (p ∷ []) → slice_index_or (p ∷ []) k q ≡ q → q ≡ p
+pub only_one : (p q : Place) (k : ℕ) → k < length (p ∷ []) → slice_index_or (p ∷ []) k q ≡ q → q ≡ p
 only_one p q zero l e = sym e
 only_one p q (suc k) l e = absurd (omega (arith, l))
 

@@ -10,3 +10,5 @@ pub mod Fewer
 pub mod Referring
 pub mod Marks
 pub mod Unmarked
+pub mod Leaving
+pub mod Written

@@ -14,7 +14,7 @@ use Rattle.quantum_space.specs.declared.spot.Spot.{Spot}
 use Rattle.quantum_space.specs.declared.spot.Kind.{Kind}
 use Rattle.quantum_space.specs.declared.spot.Kind.TheVariants as kind
 use Rattle.quantum_space.specs.PlacedWords.{spot_at}
-use Rattle.block_space.specs.Marking.{HasBlockMoreIn}
+use Rattle.block_space.specs.Marking.{HasBlockLessIn, HasBlockMoreIn}
 use Rattle.block_space.specs.declared.table.Subzone.{Subzone}
 use Rattle.block_space.specs.Tables.{Table', IsTable, numbers, opened_with, subzone_of}
 use Rattle.block_space.specs.Spaces.{Space', HasBlockAt, IsFreedAt, IsPlacedAt, IsSpace, IsTakenOff, byte_at, id_at, kind_of, layout_at, other, region, size_of, spot_in, spot_of, placed_at}
@@ -216,7 +216,7 @@ module _ (s new : Space') (sound : IsSound s) (id : BlockId) (l : Layout) (p : P
     layout = ap (λ (xs : List (Option Layout)). get_or xs at None) is.placed.placed.layouts ∙ get_or-set_same (region s k).layouts at (Some l) None is.placed.placed.inside;
     its_id = ap (λ (xs : List BlockId). get_or xs at no_id) is.placed.placed.ids ∙ get_or-set_same (region s k).ids at id no_id (let r = sound.regions k in omega (arith, is.placed.placed.inside, r.ids, r.layouts));
     byte = is.placed.placed.first;
-    others = λ y o e. (let t = still y o e in (t.layout, t.id, t.byte));
+    others = λ y o e. (let t = still y o e in record { layout = t.layout; id = t.id; byte = t.byte; words = t.words });
     only = was;
   })
 
@@ -252,6 +252,15 @@ module _ (s new : Space') (sound : IsSound s) (l : Layout) (p : Place) (x : Spot
     gone = layout_spot new p x (spots p ∙ there) ∙ freed_gone (region s x.kind) (region new x.kind) (sound.regions x.kind) l x.at stored is.freed inside;
     others = λ q o d e. (let y = some_spot s q o e in same_block s new q y.0 o y.1 (spots q ∙ y.1) (left_still y.0 o (other_spot q y.0 d y.1) y.2));
     only = λ q o e. (let y = some_spot new q o e in layout_spot s q y.0 (sym (spots q) ∙ y.1) ∙ left_was y.0 o y.2);
+  }
+
+  -- the same by quantum
+  pub block_less_in : HasBlockLessIn s new x
+  block_less_in = record {
+    gone = sym (layout_spot new p x (spots p ∙ there)) ∙ block_less.gone;
+    others = λ y o d e. (let t = left_still y o d e in record { layout = t.layout; id = t.id; byte = t.byte; words = t.words });
+    only = left_was;
+    spare = is.spare;
   }
 
 pub taken_off : (s new : Space') → IsSound s → (p : Place) → HasBlockAt s p → IsTakenOff s new p → HasBlockLess s new p

@@ -20,7 +20,7 @@ pub all_still : (r new : Region') (k : ℕ) (o : Layout) → new ≡ r → get_o
 all_still r new k o e s = subst (λ (x : Region'). IsStill r x k o) (sym e) (record { layout = s; id = refl; byte = refl; words = λ i l. refl })
 
 -- words of blocks that lie apart lie apart
-words_apart : (w k at i len other : ℕ) → 0 < w → i < len → (k + quanta_in w len ≤ at) ⊎ (at + quanta_in w other ≤ k) → (k * w + i < at * w) ⊎ (at * w + other ≤ k * w + i)
+pub words_apart : (w k at i len other : ℕ) → 0 < w → i < len → (k + quanta_in w len ≤ at) ⊎ (at + quanta_in w other ≤ k) → (k * w + i < at * w) ⊎ (at * w + other ≤ k * w + i)
 words_apart w k at i len other wide l (inl a) = (let d : (k + quanta_in w len) * w ≡ k * w + quanta_in w len * w = omega arith in inl (omega (arith, l, d, row_le w (k + quanta_in w len) at a, words_fit w len wide)))
 words_apart w k at i len other wide l (inr a) = (let d : (at + quanta_in w other) * w ≡ at * w + quanta_in w other * w = omega arith in inr (omega (arith, l, d, row_le w (at + quanta_in w other) k a, words_fit w other wide)))
 

@@ -1,5 +1,5 @@
 -- Marking over a space: shades by quantum, and visits along the words of a block
-use Rattle.std.specs.Prelude.{◌⊎◌, map, ◌≡◌, ℕ, zero, suc, ◌+◌, ◌-◌, ◌*◌, ◌/◌, ◌%◌, ◌<◌, ◌≤◌, ◌&&◌, nat_lt, Bool, true, List, [], ◌∷◌, ◌++◌, Option, Some, None, ⊤, get_or, if◌then◌else◌}
+use Rattle.std.specs.Prelude.{◌⊎◌, map, ◌≡◌, ◌≢◌, ℕ, zero, suc, ◌+◌, ◌-◌, ◌*◌, ◌/◌, ◌%◌, ◌<◌, ◌≤◌, ◌&&◌, nat_lt, Bool, true, List, [], ◌∷◌, ◌++◌, Option, Some, None, ⊤, get_or, if◌then◌else◌}
 use Rattle.std.specs.Option.{option_map_or}
 use Rattle.az_base.specs.declared.action.Mode.{Mode}
 use Rattle.az_base.specs.declared.action.Mode.TheVariants as mode
@@ -17,7 +17,7 @@ use Rattle.quantum_space.specs.declared.spot.Kind.TheVariants as kind
 use Rattle.az_base.specs.declared.word.Word.{Word}
 use Rattle.az_base.specs.declared.word.Word.TheVariants as plain
 use Rattle.quantum_space.specs.AdminMaps.{with_bytes}
-use Rattle.quantum_space.specs.PlacedWords.{spot_at, unplaced, word_of}
+use Rattle.quantum_space.specs.PlacedWords.{known, spot_at, unplaced, word_of}
 use Rattle.quantum_space.specs.Regions.{Region', HasBlock, new_byte, no_id, with_byte, with_word}
 use Rattle.quantum_space.specs.Shapes.{Puts, Stack, is_unmarked}
 use Rattle.block_space.specs.Spaces.{Space', region, with_region}
@@ -142,11 +142,29 @@ abbrev pub ends_from : Space' → Spot → ℕ → ℕ → List BlockId
 ends_from s x i zero = []
 ends_from s x i (suc n) = ends_in (word_of (word_in s x i)) ++ ends_from s x (suc i) n
 
+-- the block that begins at a quantum is as it was
+pub record IsSameIn (s new : Space') (y : Spot) (o : Layout) : Type 0 where
+  pub layout : layout_in new y ≡ Some o
+  pub id : id_in new y ≡ id_in s y
+  pub byte : byte_in new y ≡ byte_in s y
+  pub words : (i : ℕ) → i < len_of o → word_in new y i ≡ word_in s y i
+
+-- one block has gone from a quantum, and all others are as they were
+pub record HasBlockLessIn (s new : Space') (x : Spot) : Type 0 where
+  pub gone : layout_in new x ≡ None
+  pub others : (y : Spot) (o : Layout) → y ≢ x → layout_in s y ≡ Some o → IsSameIn s new y o
+  pub only : (y : Spot) (o : Layout) → layout_in new y ≡ Some o → layout_in s y ≡ Some o
+  pub spare : new.spare ≡ s.spare
+
+-- no word of another block knows that its block lies at the quantum
+abbrev pub IsUnknown : Space' → Spot → Type 0
+IsUnknown s x = (y : Spot) (o : Layout) (i : ℕ) → layout_in s y ≡ Some o → y ≢ x → i < len_of o → known (word_in s y i) ≢ Some x
+
 -- one block has come at a quantum, with its id and the byte of a new one, and all others are as they were
 pub record HasBlockMoreIn (s new : Space') (id : BlockId) (l : Layout) (x : Spot) : Type 0 where
   pub fresh : layout_in s x ≡ None
   pub layout : layout_in new x ≡ Some l
   pub its_id : id_in new x ≡ id
   pub byte : byte_in new x ≡ new_byte
-  pub others : (y : Spot) (o : Layout) → layout_in s y ≡ Some o → (layout_in new y ≡ Some o) × (id_in new y ≡ id_in s y) × (byte_in new y ≡ byte_in s y)
+  pub others : (y : Spot) (o : Layout) → layout_in s y ≡ Some o → IsSameIn s new y o
   pub only : (y : Spot) (o : Layout) → layout_in new y ≡ Some o → (y ≡ x) ⊎ (layout_in s y ≡ Some o)

@@ -46,9 +46,9 @@ pub long : (es : List (BlockId × Row)) → length (keys_of es) ≡ length es
 long [] = refl
 long (e ∷ es) = ap suc (long es)
 
-pub tabled : (t : Table) (es : List (BlockId × Row)) (b u n : ℕ) (room : List ℕ) → table_of es b room ≡ t → IsDistinct id_eq (keys_of es) → IsKept es b u room n → IsTable t
+pub tabled : (t : Table) (es : List (BlockId × Row)) (b u n : ℕ) (room : List ℕ) → table_of es b room ≡ t → Once (keys_of es) → IsKept es b u room n → IsTable t
 tabled t es b u n room is once k = subst IsTable is (record {
-  once = once_each (keys_of es) once;
+  once = once;
   order = λ q. (
     (λ h. some_is _ (sym (there_alike (table_of es b room) es b room refl q _ refl) ∙ key_there es q h)),
     (λ h. there_key es q (there_alike (table_of es b room) es b room refl q _ refl ∙ is_some_of _ h)),

@@ -18,6 +18,7 @@ use Rattle.quantum_space.specs.declared.shade.Shade.TheVariants as shade
 use Rattle.block_table.specs.Holds.{Holds}
 use Rattle.block_table.specs.Stored.{HeapBlock, Row}
 use Rattle.block_table.specs.Table.{Table}
+use Rattle.block_table.specs.Lying.{Kept'}
 
 abbrev shade_code : Shade → Unit {0} ⊎ (Unit {0} ⊎ Unit {0})
 shade_code shade.White = inl tt
@@ -44,6 +45,10 @@ abbrev pub coded_kept : Coded HeapBlock
 coded_kept = code_by (Layout × (List Word × (List Action × (Bool × ℕ)))) (coded× coded_layout (coded× (coded_list coded_word) (coded× (coded_list coded_action) (coded× coded_bool coded_ℕ))))
     (λ k. (k.layout, (k.words, (k.actions, (k.finalised, k.age)))))
     (λ p. record { layout = p.0; words = p.1.0; actions = p.1.1.0; finalised = p.1.1.1.0; age = p.1.1.1.1 }) (λ _. refl)
+
+abbrev pub coded_part : Coded Kept'
+coded_part = code_by (List Action × (Holds × Bool)) (coded× (coded_list coded_action) (coded× coded_holds coded_bool))
+    (λ k. (k.actions, (k.holds, k.finalised))) (λ p. record { actions = p.0; holds = p.1.0; finalised = p.1.1 }) (λ _. refl)
 
 abbrev pub coded_row : Coded Row
 coded_row = code_by (HeapBlock × (Holds × (Shade × Bool))) (coded× coded_kept (coded× coded_holds (coded× coded_shade coded_bool)))

@@ -3,3 +3,5 @@ pub mod Stored
 pub mod Places
 pub mod Table
 pub mod Codes
+pub mod Marking
+pub mod Lying

@@ -8,6 +8,9 @@
 //! it, and how often; and two notes of a collection, a shade and whether the block is remembered. A block comes in black:
 //! whatever is white was there at the last `begin`.
 //!
+//! A collection marks over the table as a graph, whose edges lead along words. `scan` makes a block black and visits all to
+//! which its words refer in one call, `visit` one block.
+//!
 //! Room is taken first, by the lengths of the blocks that are to come in their order, and to come in then takes no
 //! memory. Blocks are removed in one call, which ends the cycle: positions are new from there on, and no word of a block
 //! that stays may refer to one that goes, so that no word outlives its block.
@@ -19,8 +22,9 @@
 #![tactic(auto)]
 
 mod holders;
-mod reserved;
-mod stored;
+mod kept;
+mod marking;
+mod reading;
 mod table;
 
 pub use table::BlockTable;

@@ -1,53 +1,53 @@
 //! The blocks by id and by position.
-ghost use Rattle.std.specs.Prelude.{◌≡◌, ◌<◌, ◌≤◌, ◌+◌, ◌⊎◌, ◌↔◌, ◌++◌, ℕ, [], None, Some, true, false, is_some, length, drop, map, IsOk, IsSome, IsTrue, IfSome, OnOk, OnErr, MatchOption, option_and_then, option_map, if◌then◌else◌, slice_get, slice_set};
+ghost use Rattle.std.specs.Prelude.{List, ◌≡◌, ◌<◌, ◌≤◌, ◌+◌, ◌*◌, ◌⊎◌, ◌++◌, ◌^◌, ℕ, [], None, Some, true, false, is_some, length, map, IsOk, IsSome, IsTrue, IfSome, OnOk, OnErr, MatchOption, option_and_then, option_map, slice_get, slice_set};
 ghost use Rattle.std.specs.Option.{option_map_or};
-ghost use Rattle.std.specs.FinMap.{get, insert, contains_key, empty};
+ghost use Rattle.std.specs.FinMap.{get, contains_key, empty};
 ghost use Rattle.az_base.specs.declared.block_id.BlockId.{BlockId};
-ghost use Rattle.az_base.specs.Ids.{among, id_eq};
+ghost use Rattle.az_base.specs.Ids.{among};
 ghost use Rattle.block_layouts.specs.Fitting.{FitsAt, Fits};
-ghost use Rattle.block_layouts.specs.Layouts.{class_at, len_of, quanta};
-ghost use Rattle.quantum_space.specs.Shapes.{Has};
+ghost use Rattle.block_layouts.specs.Layouts.{class_at, len_of};
 ghost use Rattle.zone_model.specs.State.{with_edit};
 ghost use Rattle.block_table.specs.Holds.{times, with_times, held_once};
 ghost use Rattle.block_table.specs.Places.{NextOf, PlaceOf, in_word};
+ghost use Rattle.block_space.specs.Marking.{len_in};
+ghost use Rattle.indexmap.specs.IndexMap.{spare};
+ghost use Rattle.space_graph.specs.Graphs.{IsForgotten, spot_for};
+ghost use Rattle.block_table.specs.Lying.{Kept' as AKept, AreLying, entries_of, HasLess, HasOneLess, IsPutWith, IsWrittenTo, lying_table};
 ghost use Rattle.block_table.specs.Stored.{IsWhole, newly, older};
-ghost use Rattle.block_table.specs.Table.{AreApart, AreRemoved, IsRemoved, aged, aged_at, IsTable, card_in, is_held_in, is_young_at, no_blocks, shades_in, used_by, with_block, words_in};
-ghost use Rattle.indexmap.specs.IndexMap.{spare, index_map_len, get as find_by};
-ghost use Rattle.quantum_space.specs.declared.shade.Shade.TheVariants as shade;
+ghost use Rattle.block_table.specs.Table.{AreApart, AreRemoved, IsTable, is_held_in, is_young_at, no_blocks, used_by, with_block, words_in};
 
-use crate::reserved::Reserved;
-use crate::stored::EscapedBlock;
+use crate::kept::Kept;
+use crate::reading;
 use az_base::{Action, BlockId, Class, NoMemory, ThreadNo, Word};
 use block_layouts::Layout;
 use indexmap::IndexMap;
-use quantum_space::Shade;
+use quantum_space::{Graph, Spot};
+use space_graph::SpaceGraph;
 use std::alloc::Global;
 use std::marker::Model;
 
-/// The escaped blocks, and room for more.
+/// The blocks where they lie, with room for more, and what is kept of each beside.
 #[derive(Drop)]
 pub struct BlockTable {
-    stored: IndexMap<BlockId, EscapedBlock>,
-    /// How many blocks there were as the last cycle began.
-    began: u32,
+    pub(crate) graph: SpaceGraph,
+    kept: IndexMap<BlockId, Kept>,
     /// The quanta of all blocks.
     used: u64,
-    room: Reserved,
 }
 
 impl Model for BlockTable {
-    ghost use Rattle.std.specs.Prelude.{◌≡◌, ◌<◌, ◌≤◌, ◌+◌, ◌*◌, ◌^◌, length};
-    ghost use Rattle.indexmap.specs.IndexMap.{spare, index_map_len, get as find_by};
+    ghost use Rattle.indexmap.specs.IndexMap.{spare};
     ghost use Rattle.block_table.specs.Codes.{coded_table};
-    ghost use Rattle.block_table.specs.Table.{Table, IsKept, table_of};
+    ghost use Rattle.block_table.specs.Table.{Table};
+    ghost use Rattle.block_table.specs.Lying.{AreLying, lying_table};
 
     ghost Value = { Table };
 
     ghost coded = { coded_table };
 
-    ghost view = { λ b. table_of b.stored.entries b.began b.room };
+    ghost view = { λ b. lying_table b.graph b.kept.entries };
 
-    ghost invariant = { λ b. IsKept b.stored.entries b.began b.used b.room (spare b.stored) };
+    ghost invariant = { λ b. AreLying b.graph b.kept.entries b.used (spare b.kept) };
 }
 
 impl BlockTable {
@@ -56,41 +56,40 @@ impl BlockTable {
         ensures { result ≡ no_blocks }
     {
         BlockTable {
-            stored: IndexMap::new(alloc),
-            began: 0,
+            graph: SpaceGraph::new(alloc),
+            kept: IndexMap::new(alloc),
             used: 0,
-            room: Reserved::none(alloc),
         }
     }
 
-    /// Room for blocks of these lengths, which are to come after those for which there is room. O(lengths), and O(blocks)
-    /// where the table grows.
+    /// Room for blocks of these lengths, which are to come after those for which there is room. O(lengths), and what the
+    /// space and the table add.
     pub fn reserve(&mut self, lengths: &[u32]) -> Result<(), NoMemory>
         ensures ok { OnOk result (self.new ≡ record self.old { room = self.old.room ++ lengths.now }) }
         ensures err { OnErr result (self.new ≡ self.old) }
     {
-        let more = self.room.len().saturating_add(lengths.len());
-        if self.stored.len().saturating_add(more) > u32::MAX as usize {
+        let more = self.graph.space().to_come().saturating_add(lengths.len());
+        if (self.graph.len() as usize).saturating_add(more) > u32::MAX as usize {
             return Err(NoMemory);
         }
         if self.used > u64::MAX - 2048 * more as u64 {
             return Err(NoMemory);
         }
-        self.stored.reserve(more)?;
-        self.room.extend(lengths)
+        self.kept.reserve(more)?;
+        self.graph.reserve(lengths)
     }
 
     /// Gives up the room that is left.
     pub fn unreserve(&mut self)
         ensures { self.new ≡ record self.old { room = [] } }
     {
-        self.room.clear();
+        self.graph.unreserve();
     }
 
     pub fn has(&self, id: BlockId) -> bool
         ensures { result ≡ contains_key self.now.blocks id }
     {
-        self.stored.contains_key(&id)
+        self.graph.has(id)
     }
 
     /// How many blocks there are.
@@ -98,13 +97,8 @@ impl BlockTable {
         ensures value { result ≡ length self.now.order }
         ensures table { IsTable self.now }
     {
-        self.stored.len() as u32
-    }
-
-    pub fn is_empty(&self) -> bool
-        ensures { IsTrue result ↔ (self.now.order ≡ []) }
-    {
-        self.stored.is_empty()
+        self.graph.is_graph();
+        self.graph.len()
     }
 
     /// The small quanta that the blocks take.
@@ -118,27 +112,22 @@ impl BlockTable {
     pub fn nth(&self, n: u32) -> Option<BlockId>
         ensures { result ≡ slice_get self.now.order n }
     {
-        match self.stored.get_index(n as usize) {
-            Some((id, _)) => Some(*id),
-            None => None,
-        }
+        self.graph.nth(n)
     }
 
     /// The position of a block; None exactly where it isn't there.
     pub fn position(&self, id: BlockId) -> Option<u32>
         ensures { PlaceOf self.now.order id result }
     {
-        match self.stored.get_index_of(&id) {
-            Some(place) => Some(place as u32),
-            None => None,
-        }
+        self.graph.is_graph();
+        self.graph.position(id)
     }
 
     /// How many of the first positions were there at the last `begin`.
     pub fn began(&self) -> u32
         ensures { result ≡ self.now.began }
     {
-        self.began
+        self.graph.began()
     }
 
     /// A cycle begins: the blocks that there are now are its blocks.
@@ -146,26 +135,16 @@ impl BlockTable {
         ensures value { self.new ≡ record self.old { began = length self.old.order } }
         ensures table { IsTable self.new }
     {
-        self.began = self.stored.len() as u32;
-    }
-
-    /// The layout of a block, where it is there.
-    pub fn layout(&self, id: BlockId) -> Option<&Layout>
-        ensures layout { option_map (λ l. l.now) result ≡ option_map (λ k. k.layout) (get self.now.blocks id) }
-        ensures whole { IfSome (get self.now.blocks id) IsWhole }
-    {
-        match self.stored.get(&id) {
-            Some(stored) => Some(stored.layout()),
-            None => None,
-        }
+        self.graph.is_graph();
+        self.graph.begin();
     }
 
     /// The class of a word of a block, where both are there.
     pub fn class_at(&self, id: BlockId, at: u32) -> Option<Class>
         ensures { result ≡ option_and_then (λ k. class_at k.layout at) (get self.now.blocks id) }
     {
-        match self.stored.get(&id) {
-            Some(stored) => stored.class_at(at),
+        match self.graph.find(id) {
+            Some(spot) => reading::class_at(self.graph.space(), spot, at),
             None => None,
         }
     }
@@ -175,8 +154,8 @@ impl BlockTable {
         ensures value { result ≡ length (words_in self.now.blocks id) }
         ensures range { result ≤ 4096 }
     {
-        match self.stored.get(&id) {
-            Some(stored) => stored.len(),
+        match self.graph.find(id) {
+            Some(spot) => self.graph.space().len_in(spot),
             None => 0,
         }
     }
@@ -186,8 +165,8 @@ impl BlockTable {
         ensures word { result ≡ option_and_then (λ k. slice_get k.words at) (get self.now.blocks id) }
         ensures whole { IfSome (get self.now.blocks id) IsWhole }
     {
-        match self.stored.get(&id) {
-            Some(stored) => stored.word(at),
+        match self.graph.find(id) {
+            Some(spot) => reading::word_at(self.graph.space(), spot, at),
             None => None,
         }
     }
@@ -197,10 +176,12 @@ impl BlockTable {
         requires { MatchOption (get self.old.blocks id) ⊥ (λ k. FitsAt k.layout at word) }
         ensures { self.new ≡ record self.old { blocks = with_edit self.old.blocks id (λ k. record k { words = slice_set k.words at word }) } }
     {
-        let Some(stored) = self.stored.get_mut(&id) else {
+        self.graph.is_graph();
+        self.graph.space().is_sound();
+        let Some(spot) = self.graph.find(id) else {
             unreachable!()
         };
-        stored.set_word(at, word);
+        self.graph.set_word(spot, at, word);
     }
 
     /// The first block that a word refers to, from a place on, and the place after it; None where there is none, or no
@@ -209,19 +190,8 @@ impl BlockTable {
         ensures next { NextOf (map in_word (words_in self.now.blocks id)) at result }
         ensures few { length (words_in self.now.blocks id) ≤ 4096 }
     {
-        match self.stored.get(&id) {
-            Some(stored) => stored.next_word(at),
-            None => None,
-        }
-    }
-
-    /// The same of the block at a position; None too where there is none. It looks no id up.
-    pub fn nth_next_word(&self, n: u32, at: u32) -> Option<(BlockId, u32)>
-        ensures next { NextOf (map in_word (option_map_or (words_in self.now.blocks) (slice_get self.now.order n) [])) at result }
-        ensures few { length (option_map_or (words_in self.now.blocks) (slice_get self.now.order n) []) ≤ 4096 }
-    {
-        match self.stored.get_index(n as usize) {
-            Some((_, stored)) => stored.next_word(at),
+        match self.graph.find(id) {
+            Some(spot) => reading::next_word(self.graph.space(), spot, at),
             None => None,
         }
     }
@@ -231,8 +201,8 @@ impl BlockTable {
         ensures action { result ≡ option_and_then (λ k. slice_get k.actions n) (get self.now.blocks id) }
         ensures whole { IfSome (get self.now.blocks id) IsWhole }
     {
-        match self.stored.get(&id) {
-            Some(stored) => stored.action(n),
+        match self.kept.get(&id) {
+            Some(kept) => kept.action(n),
             None => None,
         }
     }
@@ -241,8 +211,8 @@ impl BlockTable {
     pub fn is_finalised(&self, id: BlockId) -> bool
         ensures { result ≡ option_map_or (λ k. k.finalised) (get self.now.blocks id) false }
     {
-        match self.stored.get(&id) {
-            Some(stored) => stored.is_finalised(),
+        match self.kept.get(&id) {
+            Some(kept) => kept.is_finalised(),
             None => false,
         }
     }
@@ -251,31 +221,17 @@ impl BlockTable {
     pub fn set_finalised(&mut self, id: BlockId)
         ensures { self.new ≡ record self.old { blocks = with_edit self.old.blocks id (λ k. record k { finalised = true }) } }
     {
-        let Some(stored) = self.stored.get_mut(&id) else {
+        let Some(kept) = self.kept.get_mut(&id) else {
             return;
         };
-        stored.set_finalised();
-    }
-
-    /// How many Reclaims there were since the block escaped, at most 3; None where it isn't there.
-    pub fn age(&self, id: BlockId) -> Option<u8>
-        ensures age { result ≡ option_map (λ k. k.age) (get self.now.blocks id) }
-        ensures range { IfSome result (λ n. n ≤ 3) }
-    {
-        match self.stored.get(&id) {
-            Some(stored) => Some(stored.age()),
-            None => None,
-        }
+        kept.set_finalised();
     }
 
     /// Whether the block is there, and younger than 3.
     pub fn is_young(&self, id: BlockId) -> bool
         ensures { result ≡ is_young_at self.now.blocks id }
     {
-        match self.stored.get(&id) {
-            Some(stored) => stored.age() < 3,
-            None => false,
-        }
+        self.graph.is_young(id)
     }
 
     /// The age of each block rises by one, to at most 3.
@@ -283,15 +239,17 @@ impl BlockTable {
         ensures blocks { (b : BlockId) → get self.new.blocks b ≡ option_map older (get self.old.blocks b) }
         ensures rest { self.new ≡ record self.old { blocks = self.new.blocks } }
     {
-        age_each(&mut self.stored);
+        self.graph.is_graph();
+        self.graph.space().is_sound();
+        self.graph.age_all();
     }
 
     /// How often the thread holds a block; 0 where it isn't there.
     pub fn times(&self, t: ThreadNo, id: BlockId) -> u32
         ensures { result ≡ option_map_or (λ m. times m t) (get self.now.holds id) 0 }
     {
-        match self.stored.get(&id) {
-            Some(stored) => stored.times(t),
+        match self.kept.get(&id) {
+            Some(kept) => kept.times(t),
             None => 0,
         }
     }
@@ -304,102 +262,44 @@ impl BlockTable {
         ensures keys { is_some (get self.old.holds id) ≡ is_some (get self.old.blocks id) }
         ensures sure { MatchOption (get self.old.holds id) (IsOk result) (λ m. (n ≡ 0) ⊎ ((0 < times m t) ⊎ (m ≡ empty)) → IsOk result) }
     {
-        let Some(stored) = self.stored.get_mut(&id) else {
+        let Some(kept) = self.kept.get_mut(&id) else {
             return Ok(());
         };
-        stored.set_times(t, n)
-    }
-
-    /// Whether a thread holds the block.
-    pub fn is_held(&self, id: BlockId) -> bool
-        ensures { result ≡ is_held_in self.now.holds id }
-    {
-        match self.stored.get(&id) {
-            Some(stored) => stored.is_held(),
-            None => false,
-        }
-    }
-
-    /// The shade of a block; white where it isn't there.
-    pub fn shade(&self, id: BlockId) -> Shade
-        ensures { result ≡ shades_in self.now.shades id }
-    {
-        match self.stored.get(&id) {
-            Some(stored) => stored.shade(),
-            None => Shade::White,
-        }
-    }
-
-    /// Another shade of a block.
-    pub fn set_shade(&mut self, id: BlockId, shade: Shade)
-        requires { Has self.old.order id }
-        ensures { self.new ≡ record self.old { shades = insert self.old.shades id shade } }
-    {
-        let Some(stored) = self.stored.get_mut(&id) else {
-            unreachable!()
-        };
-        stored.set_shade(shade);
-    }
-
-    /// The block at a position, if there is one, gets another shade.
-    pub fn set_nth_shade(&mut self, n: u32, shade: Shade)
-        ensures { self.new ≡ record self.old { shades = option_map_or (λ id. insert self.old.shades id shade) (slice_get self.old.order n) self.old.shades } }
-    {
-        let Some(stored) = self.stored.get_index_mut(n as usize) else {
-            return;
-        };
-        stored.set_shade(shade);
-    }
-
-    /// The shade of the block at a position; white where there is none.
-    pub fn nth_shade(&self, n: u32) -> Shade
-        ensures { result ≡ option_map_or (shades_in self.now.shades) (slice_get self.now.order n) shade.White }
-    {
-        match self.stored.get_index(n as usize) {
-            Some((_, stored)) => stored.shade(),
-            None => Shade::White,
-        }
-    }
-
-    /// Whether there is a block at a position, and it is younger than 3.
-    pub fn nth_is_young(&self, n: u32) -> bool
-        ensures { result ≡ option_map_or (is_young_at self.now.blocks) (slice_get self.now.order n) false }
-    {
-        match self.stored.get_index(n as usize) {
-            Some((_, stored)) => stored.age() < 3,
-            None => false,
-        }
+        kept.set_times(t, n)
     }
 
     /// Whether there is a block at a position, and a thread holds it.
     pub fn nth_is_held(&self, n: u32) -> bool
         ensures { result ≡ option_map_or (is_held_in self.now.holds) (slice_get self.now.order n) false }
     {
-        match self.stored.get_index(n as usize) {
-            Some((_, stored)) => stored.is_held(),
+        match self.graph.nth(n) {
+            Some(id) => self.is_held_near(id, n),
             None => false,
         }
     }
 
-    /// Whether the block is there and remembered.
-    pub fn card(&self, id: BlockId) -> bool
-        ensures { result ≡ card_in self.now.cards id }
+    /// Whether a thread holds the block. It isn't looked up where what is kept of it stands at the position.
+    fn is_held_near(&self, id: BlockId, n: u32) -> bool
+        ensures { result ≡ is_held_in self.now.holds id }
     {
-        match self.stored.get(&id) {
-            Some(stored) => stored.card(),
-            None => false,
-        }
-    }
-
-    /// Whether a block is remembered changes.
-    pub fn set_card(&mut self, id: BlockId, on: bool)
-        requires { Has self.old.order id }
-        ensures { self.new ≡ record self.old { cards = insert self.old.cards id on } }
-    {
-        let Some(stored) = self.stored.get_mut(&id) else {
-            unreachable!()
+        let Some((key, kept)) = self.kept.get_index(n as usize) else {
+            return self.is_held(id);
         };
-        stored.set_card(on);
+        if *key == id {
+            kept.is_held()
+        } else {
+            self.is_held(id)
+        }
+    }
+
+    /// Whether a thread holds the block.
+    pub fn is_held(&self, id: BlockId) -> bool
+        ensures { result ≡ is_held_in self.now.holds id }
+    {
+        match self.kept.get(&id) {
+            Some(kept) => kept.is_held(),
+            None => false,
+        }
     }
 
     /// A block comes in, last of all: black, of age 0, not finalised, not remembered, and held once by the thread, if
@@ -418,89 +318,116 @@ impl BlockTable {
         requires few { length actions.items ≤ 8 }
         ensures { self.new ≡ with_block self.old id (newly layout words.items actions.items) (held_once holder) }
     {
+        let alloc = *words.allocator();
+        self.graph.is_graph();
         self.used += u64::from(layout.quanta());
-        self.room.take();
-        let stored = born(layout, words, actions, holder);
-        let Ok(_) = self.stored.insert(id, stored) else {
+        put_words(&mut self.graph, id, layout, &words);
+        let kept = born(alloc, actions, holder);
+        let Ok(_) = self.kept.insert(id, kept) else {
             unreachable!()
         };
     }
 
-    /// These blocks go, and with them the room that is left. The others may have other positions then, and the next cycle
-    /// hasn't begun.
+    /// These blocks go, and with them the room that is left. The others may have other positions then, and all are blocks of
+    /// the next cycle. O(words and quanta of the blocks that go) expected.
     pub fn remove_all(&mut self, ids: &[BlockId])
         requires there { (b : BlockId) → IsTrue (among ids.now b) → IsSome (get self.old.blocks b) }
         requires apart { AreApart self.old.blocks ids.now }
         ensures removed { AreRemoved self.old ids.now self.new }
         ensures table { IsTable self.new }
     {
-        self.began = 0;
-        self.room.clear();
-        for n in 0..ids.len() {
-            self.remove(ids[n]);
-        }
-        self.begin();
-    }
-
-    /// The block goes, if it is there, where no cycle has begun; others may have other positions then.
-    fn remove(&mut self, id: BlockId)
-        requires { self.old.began ≡ 0 }
-        ensures { IsRemoved self.old id self.new }
-    {
-        self.used -= u64::from(take_out(&mut self.stored, id));
+        forget(&mut self.graph, ids);
+        take_out_all(&mut self.graph, &mut self.kept, &mut self.used, ids);
+        self.graph.is_graph();
     }
 }
 
-/// A block that has just escaped, which the thread, if there is one, holds once. It takes no memory.
-fn born(
-    layout: Layout,
-    words: Vec<Word>,
-    actions: Vec<Action>,
-    holder: Option<ThreadNo>,
-) -> EscapedBlock
-    requires fits { Fits layout words.items }
-    requires few { length actions.items ≤ 8 }
-    ensures { result ≡ record { kept = newly layout words.items actions.items; holds = held_once holder; shade = shade.Black; card = false } }
+/// What is kept of a block that has just escaped, which the thread, if there is one, holds once. It takes no memory.
+fn born(alloc: Global, actions: Vec<Action>, holder: Option<ThreadNo>) -> Kept
+    requires { length actions.items ≤ 8 }
+    ensures { result ≡ record { actions = actions.items; holds = held_once holder; finalised = false } }
 {
-    let alloc = *words.allocator();
-    let mut stored = EscapedBlock::new(alloc, layout, words, actions);
+    let mut kept = Kept::new(alloc, actions);
     if let Some(t) = holder {
-        let Ok(()) = stored.set_times(t, 1) else {
+        let Ok(()) = kept.set_times(t, 1) else {
             unreachable!()
         };
     }
-    stored
+    kept
 }
 
-/// The block goes, if it is there; the answer is how many quanta it took.
-fn take_out(stored: &mut IndexMap<BlockId, EscapedBlock>, id: BlockId) -> u32
-    ensures updates { (q : BlockId) → find_by id_eq stored.new q ≡ (if id_eq id q then None else find_by id_eq stored.old q) }
-    ensures quanta { result ≡ option_map_or (λ r. quanta (len_of r.kept.layout)) (find_by id_eq stored.old id) 0 }
-    ensures fewer { index_map_len stored.new ≤ index_map_len stored.old }
-    ensures spare { spare stored.old ≤ spare stored.new }
+/// A block comes, with these words.
+fn put_words(graph: &mut SpaceGraph, id: BlockId, layout: Layout, words: &[Word])
+    requires next { slice_get graph.old.space.spare 0 ≡ Some (len_of layout) }
+    requires absent { spot_for graph.old.rows id ≡ None }
+    requires fits { Fits layout words.now }
+    ensures { IsPutWith graph.old id layout words.now graph.new }
 {
-    let Some(gone) = stored.swap_remove(&id) else {
-        return 0;
+    let spot = graph.put(id, layout);
+    write_words(graph, spot, words);
+}
+
+/// These are the words of a block.
+fn write_words(graph: &mut SpaceGraph, spot: Spot, words: &[Word])
+    requires { length words.now ≡ len_in graph.old.space spot }
+    ensures { IsWrittenTo graph.old spot words.now (length words.now) graph.new }
+{
+    let len = graph.space().len_in(spot);
+    for n in 0..len {
+        graph.space().is_sound();
+        graph.set_word(spot, n, words[n as usize]);
+    }
+}
+
+/// No word knows any more where these blocks lie, there is no room for others, and all blocks are those of the next cycle.
+fn forget(graph: &mut SpaceGraph, ids: &[BlockId])
+    ensures entries { (ks : List (BlockId × AKept)) → entries_of graph.new ks ≡ entries_of graph.old ks }
+    ensures forgotten { (ks : List (BlockId × AKept)) → AreApart (lying_table graph.old ks).blocks ids.now → (b : BlockId) → IsTrue (among ids.now b) → IsForgotten graph.new b }
+    ensures all { graph.new.began ≡ length graph.new.rows }
+    ensures spare { graph.new.space.spare ≡ [] }
+    ensures lying { (ks : List (BlockId × AKept)) (used room : ℕ) → AreLying graph.old ks used room → AreLying graph.new ks used room }
+{
+    graph.unreserve();
+    graph.begin();
+    graph.is_graph();
+    graph.forget_all(ids);
+}
+
+/// These blocks go, of which no word knows where they lie.
+fn take_out_all(
+    graph: &mut SpaceGraph,
+    kept: &mut IndexMap<BlockId, Kept>,
+    used: &mut u64,
+    ids: &[BlockId],
+)
+    requires forgotten { (b : BlockId) → IsTrue (among ids.now b) → IsForgotten graph.old b }
+    requires all { graph.old.began ≡ length graph.old.rows }
+    requires lying { AreLying graph.old kept.old.entries used.old (spare kept.old) }
+    ensures lying { AreLying graph.new kept.new.entries used.new (spare kept.new) }
+    ensures less { HasLess (lying_table graph.old kept.old.entries) ids.now (lying_table graph.new kept.new.entries) }
+    ensures all { graph.new.began ≡ length graph.new.rows }
+{
+    for n in 0..ids.len() {
+        take_out(graph, kept, used, ids[n]);
+    }
+}
+
+/// A block goes, if it is there, of which no word knows where it lies.
+fn take_out(graph: &mut SpaceGraph, kept: &mut IndexMap<BlockId, Kept>, used: &mut u64, id: BlockId)
+    requires forgotten { IsForgotten graph.old id }
+    requires all { graph.old.began ≡ length graph.old.rows }
+    requires lying { AreLying graph.old kept.old.entries used.old (spare kept.old) }
+    ensures lying { AreLying graph.new kept.new.entries used.new (spare kept.new) }
+    ensures less { HasOneLess (lying_table graph.old kept.old.entries) id (lying_table graph.new kept.new.entries) }
+    ensures all { graph.new.began ≡ length graph.new.rows }
+    ensures forgotten { (b : BlockId) → IsForgotten graph.old b → IsForgotten graph.new b }
+{
+    let Some(spot) = graph.find(id) else {
+        return;
     };
-    gone.quanta()
-}
-
-/// Each block is older by one Reclaim.
-fn age_each(stored: &mut IndexMap<BlockId, EscapedBlock>)
-    ensures entries { stored.new.entries ≡ aged stored.old.entries }
-    ensures spare { spare stored.new ≡ spare stored.old }
-{
-    for n in 0..stored.len() {
-        age_nth(stored, n);
-    }
-}
-
-/// The block at a position, if there is one, is older by one Reclaim.
-fn age_nth(stored: &mut IndexMap<BlockId, EscapedBlock>, n: usize)
-    ensures entries { stored.new.entries ≡ aged_at stored.old.entries n }
-    ensures spare { spare stored.new ≡ spare stored.old }
-{
-    if let Some(row) = stored.get_index_mut(n) {
-        row.grow_older();
-    }
+    graph.is_graph();
+    let gone = u64::from(reading::quanta(graph.space(), spot));
+    graph.remove(id);
+    let _ = kept.swap_remove(&id);
+    *used -= gone;
 }

@@ -7,17 +7,16 @@ use Rattle.az_base.specs.Places.{pair_cmp}
 use Rattle.assoc_refs.specs.Table.{pairs_of}
 use Rattle.az_base.specs.declared.action.Mode.{Mode}
 use Rattle.az_base.specs.declared.block_id.BlockId.{BlockId}
-use Rattle.az_base.specs.Ids.{id_cmp}
-use Rattle.block_table.specs.Places.{NextOf, PlaceOf, somes}
+use Rattle.block_table.specs.Places.{NextOf, somes}
 use Rattle.block_table.proofs.Somes.{past}
 use Rattle.block_table.specs.Table.{Table, shades_in}
 use Rattle.quantum_space.specs.declared.shade.Shade.{Shade}
-use Rattle.quantum_space.specs.declared.shade.Shade.TheVariants as shade
-use Rattle.quantum_space.specs.Shapes.{Has, Visits, WithShade, is_left_white, is_taken, is_unmarked}
+use Rattle.quantum_space.specs.Shapes.{Has, WithShade, is_left_white, is_unmarked}
 use Rattle.heap_tables.specs.Graphs.{graph_of, shades_of, value_of}
 use Rattle.heap_tables.specs.declared.tables.Tables.{Tables}
 use Rattle.heap_tables.proofs.Showing.{value_edge}
-use Rattle.heap_tables.proofs.Fronts.{take_has, has_take, shaded_one}
+use Rattle.block_table.specs.Marking.{graph_in}
+use Rattle.block_table.proofs.Visits.{shaded_at, taken_alike}
 
 -- what stands in a front
 pub front_get : (xs : List BlockId) (b n : ℕ) (id : BlockId) → Some id ≡ slice_get (take b xs) n → slice_get xs n ≡ Some id
@@ -76,49 +75,6 @@ long_both (x ∷ xs) ys = let r = long_both xs ys in omega (arith, r)
 pub remembered_since : (cards order : List BlockId) (b n k : ℕ) → n ≡ length cards + k → slice_get (cards ++ drop b order) n ≡ slice_get order (b + k)
 remembered_since cards order b n k e = get_second cards (drop b order) n k e ∙ get_behind order b k
 
--- what isn't there at Begin isn't visited
-pub not_visited : (m : Mode) (t : Tables) (id : BlockId) → ¬ Has (take t.blocks.began t.blocks.order) id → Visits m (graph_of t) id false (shades_of t) (shades_of t)
-not_visited m t id absent = record { greyed = λ e. cc; same = λ e q. refl; passed = λ e h. absurd (absent h) }
-
-pub behind_front : (t : Tables) (id : BlockId) (n : ℕ) → PlaceOf t.blocks.order id (Some n) → t.blocks.began ≤ n → ¬ Has (take t.blocks.began t.blocks.order) id
-behind_front t id n at past h =
-    let k = has_take t.blocks.order t.blocks.began id h in
-    let same : k.0 ≡ n = at.1 k.0 k.2 in
-    omega (arith, same, k.1, past)
-
--- a block at a position
-at_position : (m : Mode) (t : Tables) (id : BlockId) (n : ℕ) (a : Bool) → slice_get t.blocks.order n ≡ Some id → a ≡ option_map_or (is_left_white m (graph_of t) (shades_of t)) (slice_get t.blocks.order n) false → a ≡ is_left_white m (graph_of t) (shades_of t) id
-at_position m t id n a at is = is ∙ ap (λ o. option_map_or (is_left_white m (graph_of t) (shades_of t)) o false) at
-
-both : (a b : Bool) → (a && b) ≡ true → (a ≡ true) × (b ≡ true)
-both true b e = (refl, e)
-both false b e = cc
-
-is_white : (s : Shade) → is_unmarked s ≡ true → s ≡ shade.White
-is_white shade.White e = refl
-is_white shade.Grey e = cc
-is_white shade.Black e = cc
-
-pub passed_by : (m : Mode) (t : Tables) (id : BlockId) (n : ℕ) → slice_get t.blocks.order n ≡ Some id → false ≡ option_map_or (is_left_white m (graph_of t) (shades_of t)) (slice_get t.blocks.order n) false
-    → Visits m (graph_of t) id false (shades_of t) (shades_of t)
-passed_by m t id n at is = record { greyed = λ e. cc; same = λ e q. refl; passed = λ e h taken white. conflict (shades_of t id) (is_taken m (graph_of t) id) white taken (at_position m t id n false at is) }
-  where
-    conflict : (s : Shade) (k : Bool) → s ≡ shade.White → k ≡ true → false ≡ (is_unmarked s && k) → ⊥
-    conflict s k w e f = let marked : (is_unmarked s && k) ≡ true = ap (λ s. is_unmarked s && k) w ∙ e in let no : false ≡ true = f ∙ marked in cc
-
-pub shaded_at : (t : Table) (n : ℕ) (id : BlockId) (s : Shade) (sh : FinMap id_cmp Shade) → slice_get t.order n ≡ Some id → sh ≡ option_map_or (λ id. insert t.shades id s) (slice_get t.order n) t.shades → WithShade (shades_in t.shades) id s (shades_in sh)
-shaded_at t n id s sh at is = λ q. ap (λ x. shades_in x q) (is ∙ ap (λ o. option_map_or (λ id. insert t.shades id s) o t.shades) at) ∙ shaded_one t.shades id s q
-
-pub visited : (m : Mode) (t : Tables) (id : BlockId) (n : ℕ) (sh : FinMap id_cmp Shade) → slice_get t.blocks.order n ≡ Some id → n < t.blocks.began → true ≡ option_map_or (is_left_white m (graph_of t) (shades_of t)) (slice_get t.blocks.order n) false
-    → sh ≡ option_map_or (λ id. insert t.blocks.shades id shade.Grey) (slice_get t.blocks.order n) t.blocks.shades → Visits m (graph_of t) id true (shades_of t) (shades_in sh)
-visited m t id n sh at within is made =
-    let one = both (is_unmarked (shades_of t id)) (is_taken m (graph_of t) id) (sym (at_position m t id n true at is)) in
-    record {
-      greyed = λ e. (take_has t.blocks.order t.blocks.began n id at within, one.1, is_white (shades_of t id) one.0, shaded_at t.blocks n id shade.Grey sh at made);
-      same = λ e. cc;
-      passed = λ e. cc;
-    }
-
 -- one position of the blocks at Begin gets a shade
 pub nth_shaded : (t : Tables) (n : ℕ) (s : Shade) (b : Table) → n < t.blocks.began → b ≡ record t.blocks { shades = option_map_or (λ id. insert t.blocks.shades id s) (slice_get t.blocks.order n) t.blocks.shades }
     → MatchOption (slice_get (take t.blocks.began t.blocks.order) n) ((let new : Tables = record t { blocks = b } in new) ≡ t) (λ id. WithShade (shades_of t) id s (shades_in b.shades))
@@ -139,9 +95,9 @@ one_left p o id a at is = ap (λ b. option_to_list (cond b (Some id) None)) is �
     by true e = sym (ap (λ b. cond b (id ∷ []) []) e)
     by false e = sym (ap (λ b. cond b (id ∷ []) []) e)
 
-pub left_told : (m : Mode) (t : Tables) (id : BlockId) (n : ℕ) (a : Bool) → Some id ≡ slice_get (take t.blocks.began t.blocks.order) n → a ≡ option_map_or (is_left_white m (graph_of t) (shades_of t)) (slice_get t.blocks.order n) false
+pub left_told : (m : Mode) (t : Tables) (id : BlockId) (n : ℕ) (a : Bool) → Some id ≡ slice_get (take t.blocks.began t.blocks.order) n → a ≡ option_map_or (is_left_white m (graph_in t.blocks) (shades_of t)) (slice_get t.blocks.order n) false
     → option_to_list (cond a (Some id) None) ≡ filter (is_left_white m (graph_of t) (shades_of t)) (option_to_list (slice_get (take t.blocks.began t.blocks.order) n))
-left_told m t id n a at is = one_left (is_left_white m (graph_of t) (shades_of t)) (slice_get (take t.blocks.began t.blocks.order) n) id a at (at_position m t id n a (front_get t.blocks.order t.blocks.began n id at) is)
+left_told m t id n a at is = one_left (is_left_white m (graph_of t) (shades_of t)) (slice_get (take t.blocks.began t.blocks.order) n) id a at (is ∙ ap (λ o. option_map_or (is_left_white m (graph_in t.blocks) (shades_of t)) o false) (front_get t.blocks.order t.blocks.began n id at) ∙ ap (λ b. is_unmarked (shades_of t id) && b) (taken_alike m (graph_in t.blocks) (graph_of t) id refl))
 
 pub there_front : (xs : List BlockId) (b n : ℕ) (id : BlockId) → Some id ≡ slice_get (take b xs) n → IsSome (slice_get xs n)
 there_front xs b n id at = ap is_some (front_get xs b n id at)

@@ -1,8 +1,8 @@
 //! The tables as a graph.
 use crate::cursors::next_some;
-use crate::tables::Tables;
+use crate::tables::{Tables, visit_values};
 use az_base::{BlockId, Mode};
-use quantum_space::{Found, Graph, Shade};
+use quantum_space::{Graph, Greys, Shade};
 
 impl Graph for Tables {
     ghost use Rattle.std.specs.Prelude.{◌≡◌, ◌+◌, ◌≤◌, ◌<◌, ◌^◌, length};
@@ -99,7 +99,7 @@ impl Graph for Tables {
     }
 
     fn edge_from(&self, id: BlockId, place: u64) -> Option<(BlockId, u64)> {
-        self.next_edge(id, 0, place)
+        self.next_edge(id, place)
     }
 
     fn is_young(&self, id: BlockId) -> bool {
@@ -115,54 +115,19 @@ impl Graph for Tables {
     }
 
     fn visit(&mut self, id: BlockId, mode: Mode) -> Option<u32> {
-        let Some(n) = self.blocks.position(id) else {
-            return None;
-        };
-        if n >= self.blocks.began() {
-            return None;
-        }
-        if !self.nth_is_left(n, mode) {
-            return None;
-        }
-        self.blocks.set_nth_shade(n, Shade::Grey);
-        Some(n)
+        self.blocks.visit(id, mode)
     }
 
-    fn follow(&mut self, id: BlockId, hint: u32, place: u64, mode: Mode) -> Option<Found> {
-        let Some(edge) = self.next_edge(id, hint, place) else {
-            return None;
-        };
-        let hint = self.visit(edge.0, mode);
-        Some(Found {
-            id: edge.0,
-            hint: hint.unwrap_or(0),
-            place: edge.1,
-            is_new: hint.is_some(),
-        })
-    }
-
-    fn blacken(&mut self, id: BlockId, hint: u32) {
-        if self.blocks.nth(hint) == Some(id) {
-            self.blocks.set_nth_shade(hint, Shade::Black);
-        } else {
-            self.blocks.set_shade(id, Shade::Black);
-        }
+    fn scan(&mut self, id: BlockId, hint: u32, mode: Mode, stack: &mut Greys) {
+        self.blocks.scan(id, hint, mode, stack);
+        visit_values(&mut self.blocks, &self.assocs, id, mode, stack);
     }
 
     fn shade_nth(&mut self, n: u32, s: Shade) {
-        if n < self.blocks.began() {
-            self.blocks.set_nth_shade(n, s);
-        }
+        self.blocks.shade_nth(n, s);
     }
 
     fn left(&self, n: u32, mode: Mode) -> Option<BlockId> {
-        let Some(id) = self.block(n) else {
-            return None;
-        };
-        if self.nth_is_left(n, mode) {
-            Some(id)
-        } else {
-            None
-        }
+        self.blocks.left(n, mode)
     }
 }

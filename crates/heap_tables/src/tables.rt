@@ -4,15 +4,17 @@ ghost use Rattle.std.specs.Option.{option_map_or};
 ghost use Rattle.std.specs.FinMap.{empty};
 ghost use Rattle.block_table.specs.Places.{NextOf, in_word, somes};
 ghost use Rattle.block_table.specs.Table.{no_blocks, words_in};
-ghost use Rattle.quantum_space.specs.Shapes.{is_left_white};
-ghost use Rattle.heap_tables.specs.Graphs.{edge_places, graph_of, if_held_in, late_places, shades_of};
+ghost use Rattle.assoc_refs.specs.Table.{pairs_of};
+ghost use Rattle.block_table.specs.Marking.{graph_in, marks_in};
+ghost use Rattle.quantum_space.specs.Shapes.{VisitsAll};
+ghost use Rattle.heap_tables.specs.Graphs.{edge_places, if_held_in, late_places, value_of};
 ghost use Rattle.heap_tables.specs.Standing.{AreTables};
 
 use crate::roots::Roots;
 use assoc_refs::Assocs;
 use az_base::{BlockId, Mode, NoMemory};
 use block_table::BlockTable;
-use quantum_space::Shade;
+use quantum_space::Greys;
 use retain_table::Counts;
 use std::alloc::Global;
 use write_barrier::Cards;
@@ -97,25 +99,12 @@ impl Tables {
         }
     }
 
-    /// The first block that a word refers to, from a place on, and the place after it. The hint is a position: where the
-    /// block stands there, it isn't looked up.
-    fn next_word(&self, id: BlockId, hint: u32, at: u32) -> Option<(BlockId, u32)>
-        ensures next { NextOf (map in_word (words_in self.now.blocks.blocks id)) at result }
-        ensures few { length (words_in self.now.blocks.blocks id) ≤ 4096 }
-    {
-        if self.blocks.nth(hint) == Some(id) {
-            self.blocks.nth_next_word(hint, at)
-        } else {
-            self.blocks.next_word(id, at)
-        }
-    }
-
-    /// The same, from any place on.
-    fn word_from(&self, id: BlockId, hint: u32, place: u64) -> Option<(BlockId, u64)>
+    /// The first block that a word refers to, from any place on, and the place after it.
+    fn word_from(&self, id: BlockId, place: u64) -> Option<(BlockId, u64)>
         ensures next { NextOf (map in_word (words_in self.now.blocks.blocks id)) place result }
         ensures range { MatchOption result (Unit {0}) (λ x. x.1 ≤ 4096) }
     {
-        match self.next_word(id, hint, place.min(4_096) as u32) {
+        match self.blocks.next_word(id, place.min(4_096) as u32) {
             Some(found) => Some((found.0, u64::from(found.1))),
             None => None,
         }
@@ -137,28 +126,35 @@ impl Tables {
         }
     }
 
-    /// The end of the first edge that leads from the block, from a place on, and the place after it. The hint is as above.
-    pub(crate) fn next_edge(&self, id: BlockId, hint: u32, place: u64) -> Option<(BlockId, u64)>
+    /// The end of the first edge that leads from the block, from a place on, and the place after it.
+    pub(crate) fn next_edge(&self, id: BlockId, place: u64) -> Option<(BlockId, u64)>
         ensures { NextOf (edge_places self.now id) place result }
     {
-        match self.word_from(id, hint, place) {
+        match self.word_from(id, place) {
             Some(found) => Some(found),
             None => self.value_from(id, place),
         }
     }
+}
 
-    /// Whether the block at a position is white, and one that the mode takes.
-    pub(crate) fn nth_is_left(&self, n: u32, mode: Mode) -> bool
-        requires { IsSome (slice_get self.now.blocks.order n) }
-        ensures { result ≡ option_map_or (is_left_white mode (graph_of self.now) (shades_of self.now)) (slice_get self.now.blocks.order n) false }
-    {
-        let is_white = match self.blocks.nth_shade(n) {
-            Shade::White => true,
-            Shade::Grey | Shade::Black => false,
-        };
-        match mode {
-            Mode::Full => is_white,
-            Mode::Young => is_white && self.blocks.nth_is_young(n),
-        }
+/// Visits the values of a block's associations, in the order of their keys, and puts those that turn grey onto the stack,
+/// where it has room for them. O(values) expected.
+pub(crate) fn visit_values(
+    blocks: &mut BlockTable,
+    assocs: &Assocs,
+    id: BlockId,
+    mode: Mode,
+    stack: &mut Greys,
+)
+    ensures visits { VisitsAll mode (graph_in blocks.old) (somes (map value_of (pairs_of assocs.now.pairs id))) (marks_in blocks.old) stack.old (marks_in blocks.new) stack.new }
+    ensures rest { blocks.new ≡ record blocks.old { shades = blocks.new.shades } }
+{
+    if assocs.len() == 0 {
+        return;
+    }
+    let mut n = 0;
+    while let Some(found) = assocs.nth_of(id, n) {
+        blocks.visit_onto(found.1, mode, stack);
+        n += 1;
     }
 }

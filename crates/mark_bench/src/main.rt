@@ -1,7 +1,7 @@
-//! How fast the marker is over blocks in a space.
+//! How fast the marker is over blocks in a space, and over the tables of a heap.
 //!
-//! Each line of standard input has a graph (chain, trees or random), a number of blocks, and for how many milliseconds it
-//! is marked again and again. A line of the output says how many blocks were marked in a pass; and for a number of
+//! Each line of standard input says what has the blocks (space or heap), a graph (chain, trees or random), a number of
+//! blocks, and for how many milliseconds it is marked again and again. A line of the output says how many blocks were marked in a pass; and for a number of
 //! milliseconds other than 0 the least nanoseconds of processor time that a begin, the slices of 1,000 blocks, and a finish
 //! took.
 #![tactic(auto)]
@@ -9,13 +9,14 @@
 ghost use Rattle.std.specs.Prelude.{◌≡◌, ◌<◌};
 ghost use Rattle.gen_marker.specs.Marking.{Shut, Tracks};
 
+mod filled;
 mod graphs;
 
-use crate::graphs::{Ends, Ways, chain, random, trees};
+use crate::filled::Filled;
+use crate::graphs::{Ways, chain, random, trees};
 use az_base::{BlockId, Mode, Steps, ThreadNo};
-use block_layouts::Layout;
 use gen_marker::{Marker, Progress};
-use quantum_space::Graph;
+use heap_tables::Tables;
 use space_graph::SpaceGraph;
 use std::alloc::{AllocError, Global};
 use std::io;
@@ -35,52 +36,28 @@ struct Best {
     condemned: usize,
 }
 
-/// A block of two words.
-fn add(graph: &mut SpaceGraph, id: BlockId) -> Result<(), AllocError> {
-    let Ok(layout) = Layout::scanned(2) else {
-        return Err(AllocError);
-    };
-    if graph.has(id) {
-        return Err(AllocError);
-    }
-    match graph.add(id, layout) {
-        Ok(()) => Ok(()),
-        Err(_) => Err(AllocError),
-    }
-}
-
-/// The words of a block refer to its ends.
-fn refer(graph: &mut SpaceGraph, id: BlockId, ends: Ends) {
-    let thread = id.thread;
-    if let Some(serial) = ends.first {
-        let _ = graph.refer(id, 0, BlockId { thread, serial });
-    }
-    if let Some(serial) = ends.second {
-        let _ = graph.refer(id, 1, BlockId { thread, serial });
-    }
-}
-
 /// The graph that has these ends.
-fn make(graph: &mut SpaceGraph, ways: &Ways, thread: ThreadNo) -> Result<(), AllocError> {
+fn make<G: Filled>(
+    alloc: Global,
+    graph: &mut G,
+    ways: &Ways,
+    thread: ThreadNo,
+) -> Result<(), AllocError> {
     let Ok(count) = u32::try_from(ways.ends.len()) else {
         return Err(AllocError);
     };
     for serial in 0..count {
-        add(graph, BlockId { thread, serial })?;
+        graph.put(alloc, BlockId { thread, serial })?;
     }
     let mut serial = 0u32;
     for ends in ways.ends.iter() {
-        refer(graph, BlockId { thread, serial }, *ends);
+        graph.link(BlockId { thread, serial }, *ends);
         serial = serial.wrapping_add(1);
     }
-    let root = BlockId {
+    graph.hold(BlockId {
         thread,
         serial: ways.root,
-    };
-    match graph.anchor(root) {
-        Ok(()) => Ok(()),
-        Err(_) => Err(AllocError),
-    }
+    })
 }
 
 /// The processor time of this thread in nanoseconds; 0 where it can't be told.
@@ -92,11 +69,11 @@ fn now(rt: &HostRuntime) -> u64 {
 }
 
 /// Slices to the end.
-fn slices<L: Ledger>(marker: &mut Marker, graph: &mut SpaceGraph, steps: &mut Steps<L>)
-    requires tracks { Tracks marker.old (⟦<SpaceGraph as Graph>⟧.shape graph.old).blocks (⟦<SpaceGraph as Graph>⟧.shades graph.old) }
-    requires shut { Shut marker.old.mode (⟦<SpaceGraph as Graph>⟧.shape graph.old) (⟦<SpaceGraph as Graph>⟧.shades graph.old) }
-    ensures tracks { Tracks marker.new (⟦<SpaceGraph as Graph>⟧.shape graph.new).blocks (⟦<SpaceGraph as Graph>⟧.shades graph.new) }
-    ensures shut { Shut marker.new.mode (⟦<SpaceGraph as Graph>⟧.shape graph.new) (⟦<SpaceGraph as Graph>⟧.shades graph.new) }
+fn slices<G: Filled, L: Ledger>(marker: &mut Marker, graph: &mut G, steps: &mut Steps<L>)
+    requires tracks { Tracks marker.old (G.Graph.shape graph.old).blocks (G.Graph.shades graph.old) }
+    requires shut { Shut marker.old.mode (G.Graph.shape graph.old) (G.Graph.shades graph.old) }
+    ensures tracks { Tracks marker.new (G.Graph.shape graph.new).blocks (G.Graph.shades graph.new) }
+    ensures shut { Shut marker.new.mode (G.Graph.shape graph.new) (G.Graph.shades graph.new) }
 {
     for _ in 0..u64::MAX {
         if marker.slice(graph, SLICE, steps) == Progress::Done {
@@ -106,7 +83,7 @@ fn slices<L: Ledger>(marker: &mut Marker, graph: &mut SpaceGraph, steps: &mut St
 }
 
 /// A cycle from begin to finish.
-fn cycle<L: Ledger>(rt: &HostRuntime, graph: &mut SpaceGraph, best: &mut Best, blank: Blank)
+fn cycle<G: Filled, L: Ledger>(rt: &HostRuntime, graph: &mut G, best: &mut Best, blank: Blank)
     requires name { blank.name ≡ L.name }
     requires parts { blank.parts ≡ L.parts }
     requires some { 0 < L.parts }
@@ -127,12 +104,12 @@ fn cycle<L: Ledger>(rt: &HostRuntime, graph: &mut SpaceGraph, best: &mut Best, b
     best.condemned = condemned.ids.len();
 }
 
-fn pass(rt: &HostRuntime, graph: &mut SpaceGraph, best: &mut Best) {
-    cycle::<Brand>(rt, graph, best, Blank::new(1));
+fn pass<G: Filled>(rt: &HostRuntime, graph: &mut G, best: &mut Best) {
+    cycle::<G, Brand>(rt, graph, best, Blank::new(1));
 }
 
 /// Passes for so many milliseconds, at least one.
-fn time(rt: &HostRuntime, graph: &mut SpaceGraph, millis: u64) -> Best {
+fn time<G: Filled>(rt: &HostRuntime, graph: &mut G, millis: u64) -> Best {
     let mut best = Best {
         begin: u64::MAX,
         mark: u64::MAX,
@@ -161,23 +138,23 @@ fn ways_of(alloc: Global, name: &str, count: u32) -> Result<Ways, AllocError> {
 }
 
 /// The blocks of a graph come.
-fn fill(
+fn fill<G: Filled>(
     alloc: Global,
-    graph: &mut SpaceGraph,
+    graph: &mut G,
     name: &str,
     count: u32,
     thread: ThreadNo,
 ) -> Result<(), AllocError> {
     let ways = ways_of(alloc, name, count)?;
-    let made = make(graph, &ways, thread);
-    graph.begin();
+    let made = make(alloc, graph, &ways, thread);
+    graph.open();
     made
 }
 
 /// What a line asks for; None for want of memory.
-fn work(
+fn work<G: Filled>(
     rt: &HostRuntime,
-    graph: &mut SpaceGraph,
+    graph: &mut G,
     name: &str,
     count: u32,
     millis: u64,
@@ -190,24 +167,44 @@ fn work(
 }
 
 /// The graph is not needed any more.
-fn end(_graph: SpaceGraph) {}
+fn end<G: Drop>(_graph: G) {}
 
-/// The same over a graph of its own.
-fn play(rt: &HostRuntime, name: &str, count: u32, millis: u64) -> Option<Best> {
+/// The same over a space of its own.
+fn play_space(rt: &HostRuntime, name: &str, count: u32, millis: u64) -> Option<Best> {
     let mut graph = SpaceGraph::new(rt.alloc());
     let best = work(rt, &mut graph, name, count, millis);
     end(graph);
     best
 }
 
+/// The same over tables of its own.
+fn play_heap(rt: &HostRuntime, name: &str, count: u32, millis: u64) -> Option<Best> {
+    let Ok(mut tables) = Tables::new(rt.alloc()) else {
+        return None;
+    };
+    let best = work(rt, &mut tables, name, count, millis);
+    end(tables);
+    best
+}
+
+/// The same over what has this name.
+fn play(rt: &HostRuntime, over: &str, name: &str, count: u32, millis: u64) -> Option<Best> {
+    if over == "heap" {
+        play_heap(rt, name, count, millis)
+    } else {
+        play_space(rt, name, count, millis)
+    }
+}
+
 fn main(rt: HostRuntime) -> io::Result<()> {
     for line in rt.lines(rt.alloc()) {
         let line = line?;
         let mut words = line.as_str().split(' ');
+        let over = words.next().unwrap_or("");
         let name = words.next().unwrap_or("");
         let count = words.next().unwrap_or("").parse::<u32>().unwrap_or(0);
         let millis = words.next().unwrap_or("").parse::<u64>().unwrap_or(0);
-        if let Some(best) = play(&rt, name, count, millis) {
+        if let Some(best) = play(&rt, over, name, count, millis) {
             let marked = (count as usize).saturating_sub(best.condemned);
             if millis == 0 {
                 println!(rt; "{marked}")?;

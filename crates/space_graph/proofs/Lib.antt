@@ -2,3 +2,4 @@ pub mod Positions
 pub mod Visits
 pub mod Steps
 pub mod Comings
+pub mod Leaving

@@ -92,7 +92,7 @@ follow_step v g is inv whole m x from stack new onto (Some j) h =
 
 -- a word that knows more
 module _ (s : Space') (x : Spot) (i : ℕ) (w : PlacedWord) where
-  word_byte : (y : Spot) → byte_in (with_word_in s x i w) y ≡ byte_in s y
+  pub word_byte : (y : Spot) → byte_in (with_word_in s x i w) y ≡ byte_in s y
   word_byte y = go x.kind y.kind
     where
       go : (k j : Kind) → get_or (region (with_region s k (with_word (region s k) x.at i w)) j).map.bytes y.at 0 ≡ get_or (region s j).map.bytes y.at 0
@@ -101,7 +101,7 @@ module _ (s : Space') (x : Spot) (i : ℕ) (w : PlacedWord) where
       go kind.Medium kind.Small = refl
       go kind.Medium kind.Medium = refl
 
-  word_layout : (y : Spot) → layout_in (with_word_in s x i w) y ≡ layout_in s y
+  pub word_layout : (y : Spot) → layout_in (with_word_in s x i w) y ≡ layout_in s y
   word_layout y = go x.kind y.kind
     where
       go : (k j : Kind) → get_or (region (with_region s k (with_word (region s k) x.at i w)) j).layouts y.at None ≡ get_or (region s j).layouts y.at None
@@ -110,7 +110,7 @@ module _ (s : Space') (x : Spot) (i : ℕ) (w : PlacedWord) where
       go kind.Medium kind.Small = refl
       go kind.Medium kind.Medium = refl
 
-  word_id : (y : Spot) → id_in (with_word_in s x i w) y ≡ id_in s y
+  pub word_id : (y : Spot) → id_in (with_word_in s x i w) y ≡ id_in s y
   word_id y = go x.kind y.kind
     where
       go : (k j : Kind) → get_or (region (with_region s k (with_word (region s k) x.at i w)) j).ids y.at no_id ≡ get_or (region s j).ids y.at no_id

@@ -1,5 +1,5 @@
 -- Graphs whose blocks lie in a space
-use Rattle.std.specs.Prelude.{◌⊎◌, ◌++◌, ◌∷◌, ◌≡◌, ◌<◌, ◌≤◌, ◌-◌, ◌^◌, ℕ, Bool, true, false, List, [], Option, Some, None, length, take, drop}
+use Rattle.std.specs.Prelude.{◌≢◌, if◌then◌else◌, ◌⊎◌, ◌++◌, ◌∷◌, ◌≡◌, ◌<◌, ◌≤◌, ◌+◌, ◌-◌, ◌^◌, ℕ, Bool, true, false, List, [], Option, Some, None, length, take, drop}
 use Rattle.std.specs.Option.{option_map_or}
 use Rattle.std.specs.Map.{keys_of, lookup}
 use Rattle.az_base.specs.declared.action.Mode.{Mode}
@@ -7,12 +7,15 @@ use Rattle.az_base.specs.declared.action.Mode.TheVariants as mode
 use Rattle.az_base.specs.declared.block_id.BlockId.{BlockId}
 use Rattle.az_base.specs.Ids.{id_eq}
 use Rattle.block_layouts.specs.declared.layout.Layout.{Layout}
+use Rattle.block_layouts.specs.Layouts.{len_of}
+use Rattle.quantum_space.specs.declared.placed.PlacedWord.{PlacedWord}
+use Rattle.quantum_space.specs.declared.placed.PlacedWord.TheVariants as word
 use Rattle.quantum_space.specs.declared.shade.Shade.TheVariants as shade
 use Rattle.quantum_space.specs.declared.spot.Spot.{Spot}
 use Rattle.quantum_space.specs.PlacedWords.{knowing}
 use Rattle.quantum_space.specs.Shapes.{Has, Once, Shades, Shape, Stack, VisitsAll, is_unmarked}
 use Rattle.block_space.specs.Spaces.{Space'}
-use Rattle.block_space.specs.Marking.{HasBlockIn, IsLost, byte_in, ends_from, id_in, layout_in, len_in, shade_told, takes_byte, unmarked, with_word_in, word_in}
+use Rattle.block_space.specs.Marking.{HasBlockIn, IsLost, IsSameIn, byte_in, ends_from, id_in, layout_in, len_in, shade_told, takes_byte, unmarked, with_word_in, word_in}
 
 -- the blocks, each with the quantum at which it begins; the space in which they lie; how many there were as the cycle began; the anchors; and the remembered blocks
 pub record Graph' : Type 0 where
@@ -88,11 +91,17 @@ abbrev pub FollowsFrom : Mode → Spot → ℕ → Graph' → Stack → Graph' �
 FollowsFrom m x from g stack new onto None = Follows m x from (len_in g.space x - from) g stack new onto
 FollowsFrom m x from g stack new onto (Some j) = (from ≤ j) × (j < len_in g.space x) × IsLost (word_in new.space x j) × Follows m x from (j - from) g stack new onto
 
--- the same blocks, whatever else has changed
+-- the same blocks with the same words, whatever else has changed
 pub record IsAlike (s new : Space') : Type 0 where
   pub layouts : (x : Spot) → layout_in new x ≡ layout_in s x
   pub ids : (x : Spot) → id_in new x ≡ id_in s x
   pub bytes : (x : Spot) → byte_in new x ≡ byte_in s x
+  pub words : (x : Spot) (i : ℕ) → word_in new x i ≡ word_in s x i
+
+-- room for the rows of all blocks that are to come
+pub record HasRoom (rows : List (BlockId × Spot)) (spare : List ℕ) (room : ℕ) : Type 0 where
+  pub fits : length spare ≤ room
+  pub few : length rows + length spare < 2 ^ 32
 
 -- one block has come at a quantum, and is black; all others are as they were
 pub record IsPut (s new : Space') (id : BlockId) (l : Layout) (x : Spot) : Type 0 where
@@ -101,12 +110,13 @@ pub record IsPut (s new : Space') (id : BlockId) (l : Layout) (x : Spot) : Type 
   pub its_id : id_in new x ≡ id
   pub used : 128 ≤ byte_in new x
   pub black : shade_told (byte_in new x) ≡ shade.Black
-  pub others : (y : Spot) (o : Layout) → layout_in s y ≡ Some o → (layout_in new y ≡ Some o) × (id_in new y ≡ id_in s y) × (byte_in new y ≡ byte_in s y)
+  pub byte : byte_in new x ≡ 130
+  pub others : (y : Spot) (o : Layout) → layout_in s y ≡ Some o → IsSameIn s new y o
   pub only : (y : Spot) (o : Layout) → layout_in new y ≡ Some o → (y ≡ x) ⊎ (layout_in s y ≡ Some o)
+  pub spare : new.spare ≡ drop 1 s.spare
 
--- a block has come, last and black; anchors and remembered blocks are as they were
-pub record IsAdded (old new : Graph') (id : BlockId) (l : Layout) : Type 0 where
-  pub spot : Spot
+-- a block has come at a quantum, last and black; anchors and remembered blocks are as they were
+pub record IsAdded (old new : Graph') (id : BlockId) (l : Layout) (spot : Spot) : Type 0 where
   pub rows : new.rows ≡ old.rows ++ (id, spot) ∷ []
   pub put : IsPut old.space new.space id l spot
   pub rest : new ≡ record { rows = new.rows; space = new.space; began = old.began; anchors = old.anchors; remembered = old.remembered }
@@ -124,3 +134,42 @@ pub record IsReferring (old new : Graph') (id : BlockId) (i : ℕ) (to : BlockId
   pub end_there : spot_for old.rows to ≡ Some end
   pub within : i < len_in old.space spot
   pub written : new ≡ with_space old (with_word_in old.space spot i (knowing to end))
+
+-- the block that a word knows to lie somewhere
+abbrev pub known_id : PlacedWord → Option BlockId
+known_id word.Null = None
+known_id (word.Block id) = None
+known_id (word.InSmall id at) = Some id
+known_id (word.InMedium id at) = Some id
+known_id (word.Number n) = None
+
+-- no word knows where this block lies
+abbrev pub IsForgotten : Graph' → BlockId → Type 0
+IsForgotten g b = (y : Spot) (o : Layout) (i : ℕ) → layout_in g.space y ≡ Some o → i < len_of o → known_id (word_in g.space y i) ≢ Some b
+
+-- words know less than before, or as much, and nothing else has changed
+pub record KnowsLess (old new : Graph') : Type 0 where
+  pub rest : rest_of new ≡ rest_of old
+  pub bytes : (x : Spot) → byte_in new.space x ≡ byte_in old.space x
+  pub less : (y : Spot) (i : ℕ) (b : BlockId) → known_id (word_in new.space y i) ≡ Some b → known_id (word_in old.space y i) ≡ Some b
+
+-- the first so many words of the block that begins at a quantum know nothing
+abbrev pub KnowsNothing : Space' → Spot → ℕ → Type 0
+KnowsNothing s x n = (i : ℕ) → i < n → known_id (word_in s x i) ≡ None
+
+-- the block of a row has gone from a space, if there is one, and all others are as they were
+pub record IsGoneFrom (rows : List (BlockId × Spot)) (s : Space') (id : BlockId) (new : Space') : Type 0 where
+  pub others : (y : Spot) (o : Layout) → spot_for rows id ≢ Some y → layout_in s y ≡ Some o → IsSameIn s new y o
+  pub only : (y : Spot) (o : Layout) → layout_in new y ≡ Some o → layout_in s y ≡ Some o
+  pub gone : (y : Spot) → spot_for rows id ≡ Some y → layout_in new y ≡ None
+  pub spare : new.spare ≡ s.spare
+
+-- a block has gone, if it was there; all blocks are those of the next cycle, and may have other positions
+pub record IsTakenOut (old : Graph') (id : BlockId) (new : Graph') : Type 0 where
+  pub rows : (q : BlockId) → spot_for new.rows q ≡ (if id_eq id q then None else spot_for old.rows q)
+  pub others : (y : Spot) (o : Layout) → spot_for old.rows id ≢ Some y → layout_in old.space y ≡ Some o → IsSameIn old.space new.space y o
+  pub only : (y : Spot) (o : Layout) → layout_in new.space y ≡ Some o → layout_in old.space y ≡ Some o
+  pub gone : (y : Spot) → spot_for old.rows id ≡ Some y → layout_in new.space y ≡ None
+  pub began : new.began ≡ length new.rows
+  pub spare : new.space.spare ≡ old.space.spare
+  pub fewer : length new.rows ≤ length old.rows

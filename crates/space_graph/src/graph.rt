@@ -1,5 +1,6 @@
 //! The blocks by position, and the space in which they lie.
 ghost use Rattle.std.specs.Prelude.{◌≡◌, ◌<◌, ◌++◌, ◌∷◌, [], length, None, Some, MatchOption, IfSome, IfNone, IfOk, OnOk, OnErr, IsTrue, is_some, slice_get};
+ghost use Rattle.std.specs.Map.{keys_of};
 ghost use Rattle.std.specs.Option.{option_map};
 ghost use Rattle.az_base.specs.declared.word.Word.TheVariants as words;
 ghost use Rattle.quantum_space.specs.PlacedWords.{word_of};
@@ -7,9 +8,10 @@ ghost use Rattle.quantum_space.specs.Regions.{HasWord};
 ghost use Rattle.quantum_space.specs.Shapes.{Has, Visits, WithShade, is_left_white};
 ghost use Rattle.block_space.specs.Spaces.{region};
 ghost use Rattle.block_space.specs.Marking.{HasBlockIn, IsLost, id_in, len_in, word_in};
-ghost use Rattle.space_graph.specs.Graphs.{Follows, FollowsFrom, begun, rest_of, shades_of, shape_of, spot_for};
+ghost use Rattle.space_graph.specs.Graphs.{Follows, FollowsFrom, IsGraph, begun, rest_of, shades_of, shape_of, spot_for};
 
 mod building;
+mod leaving;
 mod view;
 
 use crate::rows::Rows;
@@ -31,13 +33,13 @@ pub struct SpaceGraph {
 }
 
 impl Model for SpaceGraph {
-    ghost use Rattle.space_graph.specs.Graphs.{Graph', IsGraph};
+    ghost use Rattle.space_graph.specs.Graphs.{Graph', HasRoom, IsGraph};
 
     ghost Value = { Graph' };
 
     ghost view = { λ g. record { rows = g.rows.list; space = g.space; began = g.began; anchors = g.anchors.items; remembered = g.remembered.items } };
 
-    ghost invariant = { λ g. IsGraph (record { rows = g.rows.list; space = g.space; began = g.began; anchors = g.anchors.items; remembered = g.remembered.items }) };
+    ghost invariant = { λ g. IsGraph (record { rows = g.rows.list; space = g.space; began = g.began; anchors = g.anchors.items; remembered = g.remembered.items }) × HasRoom g.rows.list g.space.spare g.rows.room };
 }
 
 /// A hint where a block lies: the number of its quantum, where that has 32 bits.
@@ -46,8 +48,57 @@ fn hint_of(spot: Spot) -> u32 {
 }
 
 impl SpaceGraph {
-    /// Where a block begins; None exactly where it isn't there.
-    fn find(&self, id: BlockId) -> Option<Spot>
+    /// What holds of each graph, for callers that argue from it. O(1).
+    pub fn is_graph(&self)
+        ensures { IsGraph self.now }
+    {
+        let _ = self.rows.len();
+    }
+
+    /// How many blocks there are. O(1).
+    pub fn len(&self) -> u32
+        ensures { result ≡ length self.now.rows }
+    {
+        self.rows.len() as u32
+    }
+
+    /// How many of the first were there as the cycle began. O(1).
+    pub fn began(&self) -> u32
+        ensures { result ≡ self.now.began }
+    {
+        self.began
+    }
+
+    /// The block at a position; None exactly past the last. O(1).
+    pub fn nth(&self, n: u32) -> Option<BlockId>
+        ensures { result ≡ slice_get (keys_of self.now.rows) n }
+    {
+        match self.rows.get(n) {
+            Some(row) => Some(row.0),
+            None => None,
+        }
+    }
+
+    /// The position of a block; None exactly where it isn't there. O(1) expected.
+    pub fn position(&self, id: BlockId) -> Option<u32>
+        ensures { MatchOption result (¬ Has (keys_of self.now.rows) id) (λ n. slice_get (keys_of self.now.rows) n ≡ Some id) }
+    {
+        let _ = self.rows.len();
+        match self.rows.position(id) {
+            Some(n) => Some(n as u32),
+            None => None,
+        }
+    }
+
+    /// The space in which the blocks lie. O(1).
+    pub fn space(&self) -> &Space
+        ensures { result.now ≡ self.now.space }
+    {
+        &self.space
+    }
+
+    /// Where a block begins; None exactly where it isn't there. O(1) expected.
+    pub fn find(&self, id: BlockId) -> Option<Spot>
         ensures value { result ≡ spot_for self.now.rows id }
         ensures there { IfSome result (λ x. HasBlockIn self.now.space x) }
         ensures its { IfSome result (λ x. id_in self.now.space x ≡ id) }

@@ -1,5 +1,6 @@
 //! Where blocks begin, each at a position of its own.
-ghost use Rattle.std.specs.Prelude.{◌≡◌, ◌<◌, ◌++◌, ◌∷◌, [], None, Some, length, slice_get, MatchOption, OnOk};
+ghost use Rattle.std.specs.Prelude.{◌≡◌, ◌<◌, ◌≤◌, ◌+◌, ◌++◌, ◌∷◌, [], None, Some, length, slice_get, MatchOption, OnOk, if◌then◌else◌};
+ghost use Rattle.az_base.specs.Ids.{id_eq};
 ghost use Rattle.std.specs.Map.{keys_of};
 ghost use Rattle.quantum_space.specs.Shapes.{Has, Once};
 ghost use Rattle.space_graph.specs.Graphs.{spot_for};
@@ -67,12 +68,13 @@ impl Rows {
         self.map.get_index_of(&id)
     }
 
-    /// Room for a block more. NoMemory leaves all as it was.
-    pub fn reserve(&mut self) -> Result<(), NoMemory>
+    /// Room for so many blocks more. NoMemory leaves all as it was.
+    pub fn reserve(&mut self, count: usize) -> Result<(), NoMemory>
         ensures list { self.new.list ≡ self.old.list }
-        ensures ok { OnOk result (0 < self.new.room) }
+        ensures ok { OnOk result (count ≤ self.new.room) }
+        ensures room { self.old.room ≤ self.new.room }
     {
-        let Ok(()) = self.map.reserve(1) else {
+        let Ok(()) = self.map.reserve(count) else {
             return Err(NoMemory);
         };
         Ok(())
@@ -82,10 +84,22 @@ impl Rows {
     pub fn push(&mut self, id: BlockId, spot: Spot)
         requires absent { spot_for self.old.list id ≡ None }
         requires room { 0 < self.old.room }
-        ensures { self.new.list ≡ self.old.list ++ (id, spot) ∷ [] }
+        ensures list { self.new.list ≡ self.old.list ++ (id, spot) ∷ [] }
+        ensures room { self.old.room ≤ self.new.room + 1 }
     {
         let Ok(_) = self.map.insert(id, spot) else {
             unreachable!()
         };
+    }
+
+    /// A block goes, and the answer is where it begins; None where it isn't there. Others may have other positions then.
+    /// O(1) expected.
+    pub fn take_out(&mut self, id: BlockId) -> Option<Spot>
+        ensures value { result ≡ spot_for self.old.list id }
+        ensures rows { (q : BlockId) → spot_for self.new.list q ≡ (if id_eq id q then None else spot_for self.old.list q) }
+        ensures fewer { length self.new.list ≤ length self.old.list }
+        ensures room { self.old.room ≤ self.new.room }
+    {
+        self.map.swap_remove(&id)
     }
 }

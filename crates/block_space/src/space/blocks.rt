@@ -7,13 +7,13 @@ ghost use Rattle.block_space.specs.Spaces.{kind_of, region, spot_of, HasBlockAt,
 ghost use Rattle.block_space.specs.Maps.{AreTakenOff, HasBlockLess, HasBlockMore, HasBlocksLess, IsFreedThere, KnowsNone, MayFree};
 ghost use Rattle.quantum_space.specs.declared.place.Place.{Place as APlace};
 ghost use Rattle.quantum_space.specs.declared.spot.Spot.{Spot as ASpot};
-ghost use Rattle.block_space.specs.Marking.{HasBlockMoreIn};
+ghost use Rattle.block_space.specs.Marking.{HasBlockIn, HasBlockLessIn, HasBlockMoreIn, IsUnknown};
 
 use crate::space::{Space, kind_of, spot_by};
 use crate::table::Table;
 use az_base::BlockId;
 use block_layouts::Layout;
-use quantum_space::{Kind, Place, Region};
+use quantum_space::{Kind, Place, Region, Spot};
 
 /// Puts a block into the first hole of its kind's subzones, and says its place.
 fn place_in(
@@ -149,5 +149,16 @@ impl Space {
                 *place,
             );
         }
+    }
+
+    /// Frees the block that begins at a quantum. O(quanta).
+    pub fn free_spot(&mut self, spot: Spot)
+        requires block { HasBlockIn self.old spot }
+        requires unknown { IsUnknown self.old spot }
+        ensures { HasBlockLessIn self.old self.new spot }
+    {
+        self.is_sound();
+        let p = self.place_of(spot);
+        self.free(p);
     }
 }

@@ -2,19 +2,20 @@
 //!
 //! Who marks knows a block by its quantum (`Spot`). The byte of that quantum has its shade, and its words begin there, so
 //! neither costs a look-up. What a word refers to is visited by the quantum that the word knows.
-ghost use Rattle.std.specs.Prelude.{◌≡◌, ◌<◌, ◌≤◌, IsTrue, IsFalse, IfSome, get_or, if◌then◌else◌};
+ghost use Rattle.std.specs.Prelude.{◌≡◌, ◌<◌, ◌≤◌, None, Some, MatchOption, IsTrue, IsFalse, IfSome, get_or, if◌then◌else◌};
 ghost use Rattle.quantum_space.specs.Regions.{HasBlock, HasWord, IsFirstByte, with_byte};
-ghost use Rattle.quantum_space.specs.AdminBytes.{shade_bits};
+ghost use Rattle.quantum_space.specs.AdminBytes.{admin_of, shade_bits};
 ghost use Rattle.quantum_space.specs.Shapes.{is_unmarked};
 ghost use Rattle.quantum_space.specs.declared.shade.Shade.TheVariants as shade;
 ghost use Rattle.az_base.specs.declared.action.Mode.TheVariants as mode;
-ghost use Rattle.quantum_space.specs.PlacedWords.{knowing};
+ghost use Rattle.quantum_space.specs.PlacedWords.{knowing, unplaced};
 ghost use Rattle.block_space.specs.Spaces.{IsRight, region, spot_of};
 ghost use Rattle.block_space.specs.Marking.{HasBlockIn, HasSameBlocks, IsGreyed, IsLost, VisitsFrom, VisitsWord, byte_in, id_in, is_white_byte, layout_in, len_in, shade_told, shaded, takes_byte, with_byte_in, with_word_in, word_in};
 
 use crate::space::Space;
-use az_base::{BlockId, Mode};
-use quantum_space::{Greys, Kind, Place, PlacedWord, Region, Shade, Spot};
+use az_base::{BlockId, Mode, Word};
+use block_layouts::Layout;
+use quantum_space::{Admin, Greys, Kind, Place, PlacedWord, Region, Shade, Spot};
 
 /// Whether a byte is of a white block.
 fn is_white(byte: u8) -> bool
@@ -270,6 +271,37 @@ impl Space {
         match spot.kind {
             Kind::Small => self.small.set_word(spot.at, i as usize, word),
             Kind::Medium => self.medium.set_word(spot.at, i as usize, word),
+        }
+    }
+
+    /// Changes a word of the block that begins at a quantum, and nothing else. Where the block lies to which it refers is
+    /// then not known. O(1).
+    pub fn set_in(&mut self, spot: Spot, i: u32, word: Word)
+        requires { HasWord (region self.old spot.kind) spot.at i }
+        ensures { self.new ≡ with_word_in self.old spot i (unplaced word) }
+    {
+        let word = PlacedWord::of(word);
+        match spot.kind {
+            Kind::Small => self.small.set_word(spot.at, i as usize, word),
+            Kind::Medium => self.medium.set_word(spot.at, i as usize, word),
+        }
+    }
+
+    /// What is noted of the block that begins at a quantum. O(1).
+    pub fn admin_in(&self, spot: Spot) -> Admin
+        requires { HasBlockIn self.now spot }
+        ensures { result ≡ admin_of (byte_in self.now spot) }
+    {
+        Admin::from_byte(self.byte_in(spot))
+    }
+
+    /// The layout of the block that begins at a quantum; None where none begins. O(1).
+    pub fn layout_in(&self, spot: Spot) -> Option<&Layout>
+        ensures { MatchOption result (layout_in self.now spot ≡ None) (λ l. layout_in self.now spot ≡ Some l.now) }
+    {
+        match spot.kind {
+            Kind::Small => self.small.layout(spot.at),
+            Kind::Medium => self.medium.layout(spot.at),
         }
     }
 }

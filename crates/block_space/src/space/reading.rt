@@ -98,8 +98,8 @@ impl Space {
         }
     }
 
-    /// The place of the block that begins at a quantum.
-    fn place_of(&self, spot: Spot) -> Place
+    /// The place of the block that begins at a quantum. O(1).
+    pub fn place_of(&self, spot: Spot) -> Place
         requires { HasBlock (region self.now spot.kind) spot.at }
         ensures { spot_of self.now result ≡ Some spot }
     {

@@ -1,5 +1,5 @@
 //! Room for the blocks that are to come.
-ghost use Rattle.std.specs.Prelude.{◌≡◌, ◌<◌, ◌≤◌, ◌+◌, ◌*◌, ◌++◌, [], slice_get, OnOk, OnErr, Some, None, IfNone, IfSome, IsTrue, ◌^◌};
+ghost use Rattle.std.specs.Prelude.{◌≡◌, ◌<◌, ◌≤◌, ◌+◌, ◌*◌, ◌++◌, [], length, slice_get, OnOk, OnErr, Some, None, IfNone, IfSome, IsTrue, ◌^◌};
 ghost use Rattle.block_layouts.specs.Layouts.{quanta};
 ghost use Rattle.quantum_space.specs.Regions.{quanta_in, room_of};
 ghost use Rattle.block_space.specs.Spaces.{region, IsRoomierSpace, AreLengths, IsCovered, kind_length, kind_quanta, list_quanta, with_spare};
@@ -182,6 +182,13 @@ impl Space {
         ensures { result ≡ slice_get self.now.spare 0 }
     {
         self.spare.as_slice().get(0).copied()
+    }
+
+    /// How many blocks are to come. O(1).
+    pub fn to_come(&self) -> usize
+        ensures { result ≡ length self.now.spare }
+    {
+        self.spare.as_slice().len()
     }
 
     /// No block is to come any more. O(1).

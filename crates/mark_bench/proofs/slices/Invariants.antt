@@ -1,9 +1,8 @@
 use Rattle.gen_marker.specs.Marking.{Shut, Tracks}
-use Rattle.space_graph.specs.Graphs.{shades_of, shape_of}
 use Rattle.mark_bench.proofs.slices.Given as goal
 
 abbrev pub invariant-loop : goal.invariant-loop
 invariant-loop g l = record {
-  tracks : Tracks l.marker (shape_of l.graph).blocks (shades_of l.graph);
-  shut : Shut l.marker.mode (shape_of l.graph) (shades_of l.graph);
+  tracks : Tracks l.marker (g.G.Graph.shape l.graph).blocks (g.G.Graph.shades l.graph);
+  shut : Shut l.marker.mode (g.G.Graph.shape l.graph) (g.G.Graph.shades l.graph);
 }

@@ -1,35 +1,23 @@
 //! Blocks, words and anchors that come.
 ghost use Rattle.std.specs.Prelude.{◌≡◌, ◌<◌, ◌≤◌, ◌++◌, ◌∷◌, [], IsTrue, IsFalse, OnOk, OnErr, is_some, length, slice_get, Some, None};
 ghost use Rattle.block_layouts.specs.Layouts.{len_of};
-ghost use Rattle.quantum_space.specs.PlacedWords.{knowing};
+ghost use Rattle.quantum_space.specs.PlacedWords.{knowing, unplaced};
+ghost use Rattle.quantum_space.specs.AdminBytes.{aged};
+ghost use Rattle.block_space.specs.Spaces.{IsRenotedSpace, with_spare};
 ghost use Rattle.quantum_space.specs.declared.spot.Spot.{Spot as ASpot};
 ghost use Rattle.block_space.specs.Marking.{HasBlockIn, id_in, len_in, with_word_in};
-ghost use Rattle.space_graph.specs.Graphs.{IsAdded, IsAlike, IsPut, IsReferring, IsRoomy, spot_for, with_space};
+ghost use Rattle.space_graph.specs.Graphs.{IsAdded, IsPut, IsReferring, IsRoomy, spot_for, with_space};
 
 use crate::graph::SpaceGraph;
 use crate::rows::Rows;
-use az_base::{BlockId, NoMemory};
+use az_base::{BlockId, NoMemory, Word};
 use block_layouts::Layout;
 use block_space::Space;
 use quantum_space::{Shade, Spot};
 use std::alloc::Global;
 
-/// The most blocks that a graph may have.
+/// The most blocks that a graph may have, with those that are to come.
 const MOST_BLOCKS: usize = 0xffff_ffff;
-
-/// Room for a block of so many words, and for no other.
-fn clear_room(space: &mut Space, words: u32) -> Result<(), NoMemory>
-    requires { words ≤ 4096 }
-    ensures ok { OnOk result (space.new.spare ≡ words ∷ []) }
-    ensures same { IsAlike space.old space.new }
-{
-    space.unreserve();
-    let lengths = [words];
-    if !space.may_reserve(&lengths) {
-        return Err(NoMemory);
-    }
-    space.reserve(&lengths)
-}
 
 /// Places a block, and makes it black.
 fn place_black(space: &mut Space, id: BlockId, layout: Layout) -> Spot
@@ -50,6 +38,8 @@ impl SpaceGraph {
         ensures rows { result.rows ≡ [] }
         ensures anchors { result.anchors ≡ [] }
         ensures remembered { result.remembered ≡ [] }
+        ensures began { result.began ≡ 0 }
+        ensures spare { result.space.spare ≡ [] }
     {
         SpaceGraph {
             rows: Rows::new(alloc),
@@ -85,21 +75,42 @@ impl SpaceGraph {
         self.began = self.rows.len() as u32;
     }
 
-    /// A block comes, black, with the words of a new one. It is none of the blocks of an open cycle. NoMemory leaves all
-    /// blocks as they were. O(quanta and words of the block) expected, and what making room costs.
-    pub fn add(&mut self, id: BlockId, layout: Layout) -> Result<(), NoMemory>
-        requires { spot_for self.old.rows id ≡ None }
-        ensures ok { OnOk result (IsAdded self.old self.new id layout) }
-        ensures err { OnErr result (IsRoomy self.old self.new) }
+    /// Room for blocks of these lengths, which are to come after those for which there is room. NoMemory leaves all blocks as
+    /// they were. O(lengths, and those still to come), and what it adds.
+    pub fn reserve(&mut self, lengths: &[u32]) -> Result<(), NoMemory>
+        ensures same { IsRoomy self.old self.new }
+        ensures ok { OnOk result (self.new.space.spare ≡ self.old.space.spare ++ lengths.now) }
+        ensures err { OnErr result (self.new.space.spare ≡ self.old.space.spare) }
     {
-        if self.rows.len() >= MOST_BLOCKS {
+        let more = self.space.to_come().saturating_add(lengths.len());
+        if self.rows.len().saturating_add(more) > MOST_BLOCKS {
             return Err(NoMemory);
         }
-        self.rows.reserve()?;
-        clear_room(&mut self.space, layout.len())?;
+        if !self.space.may_reserve(lengths) {
+            return Err(NoMemory);
+        }
+        self.rows.reserve(more)?;
+        self.space.reserve(lengths)
+    }
+
+    /// No block is to come any more. O(1).
+    pub fn unreserve(&mut self)
+        ensures { self.new ≡ with_space self.old (with_spare self.old.space []) }
+    {
+        self.space.unreserve();
+    }
+
+    /// A block comes for the first of the lengths, last and black, with the words of a new one. It is none of the blocks of
+    /// an open cycle. It takes no memory. O(quanta and words of the block) expected, and what the search for its hole passes
+    /// over.
+    pub fn put(&mut self, id: BlockId, layout: Layout) -> Spot
+        requires next { slice_get self.old.space.spare 0 ≡ Some (len_of layout) }
+        requires absent { spot_for self.old.rows id ≡ None }
+        ensures { IsAdded self.old self.new id layout result }
+    {
         let spot = place_black(&mut self.space, id, layout);
         self.rows.push(id, spot);
-        Ok(())
+        spot
     }
 
     /// Makes a word of a block refer to a block, and says whether both are there, and the word. O(1) expected.
@@ -119,6 +130,22 @@ impl SpaceGraph {
         }
         self.write(spot, i, end);
         true
+    }
+
+    /// Changes a word of the block that begins at a quantum. Where the block lies to which it refers is then not known. O(1).
+    pub fn set_word(&mut self, spot: Spot, i: u32, word: Word)
+        requires { i < len_in self.old.space spot }
+        ensures { self.new ≡ with_space self.old (with_word_in self.old.space spot i (unplaced word)) }
+    {
+        self.space.set_in(spot, i, word);
+    }
+
+    /// Makes each block one older, up to 3. O(quanta of the subzones).
+    pub fn age_all(&mut self)
+        ensures aged { IsRenotedSpace aged self.old.space self.new.space }
+        ensures rest { self.new ≡ with_space self.old self.new.space }
+    {
+        self.space.age_all();
     }
 
     /// Makes a word of the block that begins at a quantum refer to the block that begins at another one.

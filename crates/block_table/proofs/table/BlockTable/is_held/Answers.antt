@@ -1,11 +1,11 @@
-use Rattle.std.proofs.Common.{◌∙◌, sym, ap, Some, None, false}
-use Rattle.block_table.proofs.Found.{at_holds}
+use Rattle.std.proofs.Common.{false, sym, ap, ◌∙◌}
 use Rattle.std.specs.Option.{option_map_or}
 use Rattle.block_table.specs.Holds.{is_held_by}
+use Rattle.block_table.proofs.Told.{held_there, holds_none, no_spot}
 use Rattle.block_table.proofs.table.BlockTable.is_held.Goals as goal
 
 pub returns-in-Some : goal.returns-in-Some
-returns-in-Some c = c.is_held.ensures ∙ sym (ap (λ o. option_map_or is_held_by o false) (at_holds _ c.self.inside.stored.entries _ _ c.self.view_is c.args.id (Some c.in-Some.stored.now) c.in-Some.ensures.value))
+returns-in-Some c = c.is_held.ensures ∙ sym (ap (λ o. option_map_or is_held_by o false) (held_there _ c.self.inside.graph c.self.inside.kept.entries c.self.view_is _ _ c.self.invariant c.args.id c.in-Some.kept.now c.in-Some.ensures.value))
 
 pub returns-in-None : goal.returns-in-None
-returns-in-None c = sym (ap (λ o. option_map_or is_held_by o false) (at_holds _ c.self.inside.stored.entries _ _ c.self.view_is c.args.id None c.in-None.ensures.value))
+returns-in-None c = sym (ap (λ o. option_map_or is_held_by o false) (holds_none _ c.self.inside.graph c.self.inside.kept.entries c.self.view_is c.args.id (no_spot _ c.self.inside.graph c.self.inside.kept.entries c.self.view_is _ _ c.self.invariant c.args.id c.in-None.ensures.value)))

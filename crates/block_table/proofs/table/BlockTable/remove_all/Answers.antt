@@ -1,27 +1,24 @@
-use Rattle.std.proofs.Common.{◌∙◌, ap, sym, refl}
-use Rattle.std.proofs.lemmas.Option.{slice_get_read}
-use Rattle.block_table.specs.Table.{Table}
-use Rattle.block_table.proofs.Comings.{without_none, next_without}
+use Rattle.std.proofs.Common.{refl, sym, subst}
+use Rattle.quantum_space.specs.Shapes.{Once}
+use Rattle.block_space.specs.Marking.{unmarked}
+use Rattle.block_table.specs.Lying.{entries_of}
+use Rattle.block_table.specs.Table.{AreApart, Table}
+use Rattle.block_table.proofs.Clearing.{removed_are}
+use Rattle.block_table.proofs.Lying.{keys_rows}
+use Rattle.block_table.proofs.Tabled.{tabled}
 use Rattle.block_table.proofs.table.BlockTable.remove_all.Goals as goal
 
-pub loop-n-init : goal.loop-n-init
-loop-n-init c = record {
-  blocks = ap (λ (t : Table). t.blocks) c.self.view_is ∙ sym (without_none c.args.self.now.blocks);
-  holds = ap (λ (t : Table). t.holds) c.self.view_is ∙ sym (without_none c.args.self.now.holds);
-  shades = ap (λ (t : Table). t.shades) c.self.view_is ∙ sym (without_none c.args.self.now.shades);
-  cards = ap (λ (t : Table). t.cards) c.self.view_is ∙ sym (without_none c.args.self.now.cards);
-  began = refl;
-  room = c.clear.ensures;
-}
+pub take_out_all-requires-clause-forgotten : goal.take_out_all-requires-clause-forgotten
+take_out_all-requires-clause-forgotten c = c.forget.ensures.forgotten c.self.inside.kept.entries (subst (λ (t : Table). AreApart t.blocks c.args.ids.now) (sym c.self.view_is) c.requires.apart)
 
-pub loop-n-preserved : goal.loop-n-preserved
-loop-n-preserved c =
-    let at = slice_get_read c.args.ids.now _ c.loop-n.n c.index-ids-n.result refl c.loop-n-test.true c.index-ids-n.is in
-    record {
-      blocks = next_without c.args.self.now.blocks c.loop-n.self.blocks c.remove.new.self.blocks c.args.ids.now c.loop-n.n c.index-ids-n.result at c.loop-n.invariant.blocks c.remove.ensures.blocks;
-      holds = next_without c.args.self.now.holds c.loop-n.self.holds c.remove.new.self.holds c.args.ids.now c.loop-n.n c.index-ids-n.result at c.loop-n.invariant.holds c.remove.ensures.holds;
-      shades = next_without c.args.self.now.shades c.loop-n.self.shades c.remove.new.self.shades c.args.ids.now c.loop-n.n c.index-ids-n.result at c.loop-n.invariant.shades c.remove.ensures.shades;
-      cards = next_without c.args.self.now.cards c.loop-n.self.cards c.remove.new.self.cards c.args.ids.now c.loop-n.n c.index-ids-n.result at c.loop-n.invariant.cards c.remove.ensures.cards;
-      began = c.remove.ensures.began ∙ c.loop-n.invariant.began;
-      room = c.remove.ensures.room ∙ c.loop-n.invariant.room;
-    }
+pub take_out_all-requires-clause-lying : goal.take_out_all-requires-clause-lying
+take_out_all-requires-clause-lying c = c.forget.ensures.lying c.self.inside.kept.entries _ _ c.self.invariant
+
+pub returns-clause-removed : goal.returns-clause-removed
+returns-clause-removed c = removed_are c.args.self.now c.self.inside.graph c.forget.new.graph c.take_out_all.new.graph c.self.inside.kept.entries c.take_out_all.new.kept.entries c.args.ids.now c.self.view_is (c.forget.ensures.entries c.self.inside.kept.entries) c.forget.ensures.spare c.take_out_all.ensures.less c.take_out_all.ensures.all
+
+pub returns-clause-table : goal.returns-clause-table
+returns-clause-table c =
+    let g = c.take_out_all.new.graph in
+    let ks = c.take_out_all.new.kept.entries in
+    tabled _ (entries_of g ks) _ _ _ _ refl (subst Once (sym (keys_rows (unmarked g.space) g.space ks g.rows)) c.is_graph.ensures.once) c.take_out_all.ensures.lying.kept

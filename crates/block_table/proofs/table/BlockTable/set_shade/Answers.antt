@@ -1,18 +1,14 @@
-use Rattle.std.proofs.Common.{◌≡◌, sym, ap, ◌∙◌, is_some, false, true}
-use Rattle.block_table.proofs.Positions.{has_key}
-use Rattle.block_table.specs.Stored.{Row}
-use Rattle.block_table.proofs.Edits.{shade_set, still_kept}
+use Rattle.block_table.proofs.Marked.{begun_has, marked_lying, rest_is, shade_is}
 use Rattle.block_table.proofs.table.BlockTable.set_shade.Goals as goal
 
-pub returns : goal.returns
-returns c =
-    let w = c.get_mut.follows.holds c.set_shade.new.self in
-    shade_set c.self.inside.stored.entries _ c.args.id c.in-Some.stored.now c.set_shade.new.self c.in-Some.ensures.value (w.3 (ap is_some (sym c.in-Some.ensures.value))).0 w.1 c.self.view_is c.args.shade c.set_shade.ensures
+pub set_shade-requires : goal.set_shade-requires
+set_shade-requires c = begun_has _ c.self.inside.graph c.self.inside.kept.entries c.self.view_is c.args.id c.requires
 
 pub invariant_of-self : goal.invariant_of-self
-invariant_of-self c =
-    let w = c.get_mut.follows.holds c.set_shade.new.self in
-    still_kept c.self.inside.stored.entries _ c.args.id c.in-Some.stored.now c.set_shade.new.self c.in-Some.ensures.value (w.3 (ap is_some (sym c.in-Some.ensures.value))).0 w.1 (ap (λ (r : Row). r.kept.layout) c.set_shade.ensures) w.2 w.6 c.self.invariant
+invariant_of-self c = marked_lying c.self.inside.graph c.set_shade.new.self _ _ _ c.set_shade.ensures.rest c.self.invariant
 
-pub unreachable-requires : goal.unreachable-requires
-unreachable-requires c = let no : false ≡ true = ap is_some c.in_default.ensures.value ∙ has_key _ c.self.inside.stored.entries _ _ c.self.view_is c.args.id c.requires in cc
+pub returns-clause-shade : goal.returns-clause-shade
+returns-clause-shade c = shade_is _ c.self.inside.graph c.self.inside.kept.entries c.self.view_is c.set_shade.new.self c.set_shade.ensures.rest c.args.id c.args.shade c.set_shade.ensures.shade
+
+pub returns-clause-rest : goal.returns-clause-rest
+returns-clause-rest c = rest_is _ c.self.inside.graph c.self.inside.kept.entries c.self.view_is c.set_shade.new.self c.set_shade.ensures.rest

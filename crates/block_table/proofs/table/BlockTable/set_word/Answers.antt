@@ -1,22 +1,32 @@
-use Rattle.std.proofs.Common.{sym, ap, subst, is_some, slice_set, Some, None, MatchOption}
+use Rattle.std.proofs.Common.{Option, MatchOption, sym, ap, ◌∙◌, subst}
 use Rattle.block_layouts.specs.Fitting.{FitsAt}
-use Rattle.block_table.proofs.Found.{at_kept}
-use Rattle.block_table.specs.Stored.{HeapBlock, Row}
-use Rattle.block_table.proofs.Edits.{blocks_edited, still_kept}
+use Rattle.block_space.specs.Maps.{IsSound}
+use Rattle.block_space.specs.Marking.{unmarked}
+use Rattle.space_graph.specs.Graphs.{Graph'}
+use Rattle.block_table.specs.Lying.{layout_at, lying_table}
+use Rattle.block_table.specs.Stored.{HeapBlock}
+use Rattle.block_table.proofs.Rewritten.{set_within, word_lying, word_table}
+use Rattle.block_table.proofs.Told.{block_none, block_there}
 use Rattle.block_table.proofs.table.BlockTable.set_word.Goals as goal
 
-pub returns : goal.returns
-returns c =
-    let w = c.get_mut.follows.holds c.set_word.new.self in
-    blocks_edited c.self.inside.stored.entries _ c.args.id c.in-Some.stored.now c.set_word.new.self c.in-Some.ensures.value (w.3 (ap is_some (sym c.in-Some.ensures.value))).0 w.1 c.self.view_is (λ (k : HeapBlock). let r : HeapBlock = record k { words = slice_set k.words c.args.at c.args.word } in r) c.set_word.ensures
+pub unreachable-requires : goal.unreachable-requires
+unreachable-requires c = subst (λ o. MatchOption o ⊥ (λ (k : HeapBlock). FitsAt k.layout c.args.at c.args.word)) (block_none _ c.self.inside.graph c.self.inside.kept.entries c.self.view_is c.args.id (sym c.in_default.is ∙ c.find.ensures.value)) c.requires
+
+pub set_word-requires : goal.set_word-requires
+set_word-requires c =
+    let g = c.self.inside.graph in
+    let fits : FitsAt (layout_at (unmarked g.space) c.in-Some.spot) c.args.at c.args.word = subst (λ (o : Option HeapBlock). MatchOption o ⊥ (λ (k : HeapBlock). FitsAt k.layout c.args.at c.args.word)) (block_there _ g c.self.inside.kept.entries c.self.view_is c.args.id c.in-Some.spot c.in-Some.ensures.value) c.requires in
+    set_within _ g c.self.inside.kept.entries c.self.view_is c.is_graph.ensures (subst IsSound c.space.ensures c.is_sound.ensures) c.args.id c.in-Some.spot (sym c.in-Some.ensures.value) c.in-Some.ensures.there c.args.at c.args.word fits _ _ c.self.invariant
 
 pub invariant_of-self : goal.invariant_of-self
 invariant_of-self c =
-    let w = c.get_mut.follows.holds c.set_word.new.self in
-    still_kept c.self.inside.stored.entries _ c.args.id c.in-Some.stored.now c.set_word.new.self c.in-Some.ensures.value (w.3 (ap is_some (sym c.in-Some.ensures.value))).0 w.1 (ap (λ (r : Row). r.kept.layout) c.set_word.ensures) w.2 w.6 c.self.invariant
+    let g = c.self.inside.graph in
+    let fits : FitsAt (layout_at (unmarked g.space) c.in-Some.spot) c.args.at c.args.word = subst (λ (o : Option HeapBlock). MatchOption o ⊥ (λ (k : HeapBlock). FitsAt k.layout c.args.at c.args.word)) (block_there _ g c.self.inside.kept.entries c.self.view_is c.args.id c.in-Some.spot c.in-Some.ensures.value) c.requires in
+    rw c.set_word.ensures (word_lying _ g c.self.inside.kept.entries c.self.view_is c.is_graph.ensures (subst IsSound c.space.ensures c.is_sound.ensures) c.args.id c.in-Some.spot (sym c.in-Some.ensures.value) c.in-Some.ensures.there c.args.at c.args.word fits _ _ c.self.invariant)
 
-pub unreachable-requires : goal.unreachable-requires
-unreachable-requires c = subst (λ o. MatchOption o ⊥ (λ (k : HeapBlock). FitsAt k.layout c.args.at c.args.word)) (at_kept _ c.self.inside.stored.entries _ _ c.self.view_is c.args.id None c.in_default.ensures.value) c.requires
-
-pub set_word-requires : goal.set_word-requires
-set_word-requires c = subst (λ o. MatchOption o ⊥ (λ (k : HeapBlock). FitsAt k.layout c.args.at c.args.word)) (at_kept _ c.self.inside.stored.entries _ _ c.self.view_is c.args.id (Some c.in-Some.stored.now) c.in-Some.ensures.value) c.requires
+pub returns : goal.returns
+returns c =
+    let g = c.self.inside.graph in
+    let fits : FitsAt (layout_at (unmarked g.space) c.in-Some.spot) c.args.at c.args.word = subst (λ (o : Option HeapBlock). MatchOption o ⊥ (λ (k : HeapBlock). FitsAt k.layout c.args.at c.args.word)) (block_there _ g c.self.inside.kept.entries c.self.view_is c.args.id c.in-Some.spot c.in-Some.ensures.value) c.requires in
+    ap (λ (y : Graph'). lying_table y c.self.inside.kept.entries) c.set_word.ensures
+    ∙ word_table _ g c.self.inside.kept.entries c.self.view_is c.is_graph.ensures (subst IsSound c.space.ensures c.is_sound.ensures) c.args.id c.in-Some.spot (sym c.in-Some.ensures.value) c.in-Some.ensures.there c.args.at c.args.word fits _ _ c.self.invariant

@@ -1,5 +1,6 @@
 use Rattle.std.proofs.Common.{◌≡◌, arith}
-use Rattle.heap_tables.proofs.Fronts.{take_has, has_take, in_whole, tests_lt, lt_tests}
+use Rattle.block_table.proofs.Fronts.{take_has, has_take, in_whole}
+use Rattle.heap_tables.proofs.Fronts.{tests_lt, lt_tests}
 use Rattle.heap_tables.proofs.graph.TablesGraph.has_block.Goals as goal
 
 pub returns-in-Some : goal.returns-in-Some

@@ -8,7 +8,7 @@ use Rattle.space_graph.proofs.graph.SpaceGraph.is_left_at.Goals as goal
 pub returns : goal.returns
 returns c =
     let g = c.args.self.now in
-    let inv : IsGraph g = subst IsGraph c.self.view_is c.self.invariant in
+    let inv : IsGraph g = subst IsGraph c.self.view_is c.self.invariant.0 in
     let x = c.args.spot in
     let byte = byte_in g.space x in
     c.is_left_in.ensures ∙ ap (λ (y : Graph'). is_white_byte c.args.mode (byte_in y.space x)) c.self.view_is

@@ -45,21 +45,21 @@ returns-then-n-self-clause-there c =
     let g = c.args.self.now in
     let l : c.args.n < g.began = subst (λ (y : Graph'). c.args.n < y.began) c.self.view_is c.if-n-self.true in
     let e : c.get.result ≡ slice_get g.rows c.args.n = c.get.ensures ∙ ap (λ (y : Graph'). slice_get y.rows c.args.n) c.self.view_is in
-    first g c.args.n c.get.result (rows g c.args.n c.get.result (subst IsGraph c.self.view_is c.self.invariant) l e)
+    first g c.args.n c.get.result (rows g c.args.n c.get.result (subst IsGraph c.self.view_is c.self.invariant.0) l e)
 
 pub returns-then-n-self-clause-its : goal.returns-then-n-self-clause-its
 returns-then-n-self-clause-its c =
     let g = c.args.self.now in
     let l : c.args.n < g.began = subst (λ (y : Graph'). c.args.n < y.began) c.self.view_is c.if-n-self.true in
     let e : c.get.result ≡ slice_get g.rows c.args.n = c.get.ensures ∙ ap (λ (y : Graph'). slice_get y.rows c.args.n) c.self.view_is in
-    second g c.args.n c.get.result (rows g c.args.n c.get.result (subst IsGraph c.self.view_is c.self.invariant) l e)
+    second g c.args.n c.get.result (rows g c.args.n c.get.result (subst IsGraph c.self.view_is c.self.invariant.0) l e)
 
 pub returns-then-n-self-clause-begun : goal.returns-then-n-self-clause-begun
 returns-then-n-self-clause-begun c =
     let g = c.args.self.now in
     let l : c.args.n < g.began = subst (λ (y : Graph'). c.args.n < y.began) c.self.view_is c.if-n-self.true in
     let e : c.get.result ≡ slice_get g.rows c.args.n = c.get.ensures ∙ ap (λ (y : Graph'). slice_get y.rows c.args.n) c.self.view_is in
-    third g c.args.n c.get.result (rows g c.args.n c.get.result (subst IsGraph c.self.view_is c.self.invariant) l e)
+    third g c.args.n c.get.result (rows g c.args.n c.get.result (subst IsGraph c.self.view_is c.self.invariant.0) l e)
 
 pub returns-else-n-self-clause-value : goal.returns-else-n-self-clause-value
 returns-else-n-self-clause-value c =

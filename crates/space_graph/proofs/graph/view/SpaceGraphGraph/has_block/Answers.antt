@@ -11,7 +11,7 @@ returns-in-Some c =
     let ks = keys_of c.self.inside.rows.list in
     let at : slice_get ks c.in-Some.n ≡ Some c.args.id = c.in-Some.ensures in
     subst (λ (g : Graph'). IsTrue (nat_lt c.in-Some.n c.self.inside.began) ↔ Has (begun g) c.args.id) c.self.view_is
-    ((λ t. first_has ks c.self.inside.began c.in-Some.n c.args.id at (ltb-true c.in-Some.n c.self.inside.began t)), (λ h. lt-ltb c.in-Some.n c.self.inside.began (first_below ks c.self.inside.began c.in-Some.n c.args.id c.self.invariant.once at h)))
+    ((λ t. first_has ks c.self.inside.began c.in-Some.n c.args.id at (ltb-true c.in-Some.n c.self.inside.began t)), (λ h. lt-ltb c.in-Some.n c.self.inside.began (first_below ks c.self.inside.began c.in-Some.n c.args.id c.self.invariant.0.once at h)))
 
 pub returns-in-None : goal.returns-in-None
 returns-in-None c =
