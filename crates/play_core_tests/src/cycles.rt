@@ -4,7 +4,7 @@ use crate::cycles::Ask::{
     Begin, Condemn, Drop, Finalise, GetRoot, Keeper, Reclaim, Scanned, SetRoot, SetWeak, Store,
 };
 use crate::tests::closes;
-use az_base::{Action, BlockId, Class, Mode, Options, Reg, RootNo, ThreadNo, WeakNo};
+use az_base::{Action, BlockId, Class, Key, Mode, Options, Reg, RootNo, ThreadNo, WeakNo};
 use block_layouts::Layout;
 use play_core::World;
 use std::alloc::Global;
@@ -13,7 +13,7 @@ use zone_model::{ActionList, Call, Loc, Reply};
 
 /// What a thread is asked for; registers, places and numbers are as in a script.
 #[derive(Clone, Copy)]
-enum Ask {
+pub(crate) enum Ask {
     Scanned(u32),
     /// An object of one data word whose finaliser keeps it in a root.
     Keeper(u32, u8),
@@ -22,6 +22,11 @@ enum Ask {
     SetRoot(u8, u32),
     GetRoot(u32, u8),
     SetWeak(u8, u32),
+    ReadWeak(u32, u8),
+    Load(u32, u32, u32),
+    SetAssoc(u32, u8, u32),
+    GetAssoc(u32, u32, u8),
+    Retain(u32),
     Begin(Mode),
     Condemn,
     Finalise,
@@ -30,10 +35,11 @@ enum Ask {
 
 /// What it answers. All blocks are of thread 1, and told by their serials.
 #[derive(Clone, Copy)]
-enum Answer {
+pub(crate) enum Answer {
     Done,
     Null,
     Block(u32),
+    Number(u64),
     Busy,
     Begun,
     Condemned(&'static [u32]),
@@ -42,7 +48,7 @@ enum Answer {
 }
 
 /// A thread, what it is asked for, and what it answers.
-type Row = (u32, Ask, Answer);
+pub(crate) type Row = (u32, Ask, Answer);
 
 /// Whether the ids have these serials, in their order.
 fn are_serials(ids: &[BlockId], serials: &[u32]) -> bool {
@@ -63,6 +69,7 @@ fn is_answer(reply: &Reply, answer: &Answer) -> bool {
         (Reply::Done, Answer::Done) => true,
         (Reply::Block(None), Answer::Null) => true,
         (Reply::Block(Some(id)), Answer::Block(serial)) => id.serial == *serial,
+        (Reply::Number(n), Answer::Number(m)) => *n == *m,
         (Reply::Busy, Answer::Busy) => true,
         (Reply::Begun, Answer::Begun) => true,
         (Reply::Condemned(ids), Answer::Condemned(serials)) => are_serials(ids.as_slice(), serials),
@@ -126,6 +133,28 @@ fn call_of(alloc: Global, asked: &Ask) -> Option<Call> {
             loc: Loc::Root(WeakNo(weak)),
             from: Reg::new(from)?,
         }),
+        Ask::ReadWeak(to, weak) => Some(Call::ReadWeak {
+            to: Reg::new(to)?,
+            loc: Loc::Root(WeakNo(weak)),
+        }),
+        Ask::Load(to, from, at) => Some(Call::Load {
+            to: Reg::new(to)?,
+            from: Reg::new(from)?,
+            at,
+        }),
+        Ask::SetAssoc(object, key, value) => Some(Call::SetAssoc {
+            object: Reg::new(object)?,
+            key: Key(key),
+            value: Reg::new(value)?,
+        }),
+        Ask::GetAssoc(to, object, key) => Some(Call::GetAssoc {
+            to: Reg::new(to)?,
+            object: Reg::new(object)?,
+            key: Key(key),
+        }),
+        Ask::Retain(reg) => Some(Call::Retain {
+            reg: Reg::new(reg)?,
+        }),
         Ask::Begin(mode) => Some(Call::Begin { mode }),
         Ask::Condemn => Some(Call::Condemn),
         Ask::Finalise => Some(Call::Finalise),
@@ -145,7 +174,7 @@ fn reply_of(alloc: Global, world: &mut World, thread: ThreadNo, call: &Call) -> 
 }
 
 /// Whether the row's thread may make its call, and it answers so.
-fn is_row(alloc: Global, world: &mut World, row: &Row) -> bool {
+pub(crate) fn is_row(alloc: Global, world: &mut World, row: &Row) -> bool {
     let (Some(thread), Some(call)) = (ThreadNo::new(row.0), call_of(alloc, &row.1)) else {
         return false;
     };
@@ -166,7 +195,7 @@ fn are_rows(alloc: Global, world: &mut World, rows: &[Row], entries: usize) -> b
 }
 
 /// A world of these threads, with no unescaped blocks where `local` is 0.
-fn world(alloc: Global, local: u32) -> Option<World> {
+pub(crate) fn world(alloc: Global, local: u32) -> Option<World> {
     let (one, two) = (ThreadNo::new(1)?, ThreadNo::new(2)?);
     let mut options = Options::usual();
     options.local_quanta = local;

@@ -6,4 +6,6 @@
 #[cfg(test)]
 mod cycles;
 #[cfg(test)]
+mod sliced;
+#[cfg(test)]
 mod tests;
