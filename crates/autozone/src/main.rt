@@ -31,7 +31,7 @@ fn main(rt: HostRuntime) -> ExitCode {
     let mut out = StdSink::new(rt.stdout());
     let mut err = StdSink::new(rt.stderr());
     let status = match words(&rt) {
-        Ok(words) => autozone(rt.alloc(), &words, &mut source, &mut out, &mut err),
+        Ok(words) => autozone(&rt, rt.alloc(), &words, &mut source, &mut out, &mut err),
         Err(NoMemory) => {
             say(&mut err, "autozone: no memory\n");
             Status::NoMemory

@@ -29,12 +29,19 @@ soak_ok first second c (Some start) (Some calls) f s e =
     (first, second, refl, number_ok first start f, number_ok second calls s, leb-true 1 calls q.0, leb-true calls 65536 q.1) in
     subst (AsksFor (codes "soak" ∷ first ∷ second ∷ [])) (some_same (commands.Soak start calls) c p.1) asks
 
+script_ok : (word : List ℕ) (c : Command) (play run : Bool) → bytes_eq word (codes "play") ≡ play → bytes_eq word (codes "run") ≡ run → cond play (Some commands.Play) (cond run (Some commands.Run) None) ≡ Some c → AsksFor (word ∷ []) c
+script_ok word c true run p r e =
+    let asks : AsksFor (word ∷ []) commands.Play = ap (λ w. w ∷ []) (is_word word (codes "play") p) in
+    subst (AsksFor (word ∷ [])) (some_same commands.Play c e) asks
+script_ok word c false true p r e =
+    let asks : AsksFor (word ∷ []) commands.Run = ap (λ w. w ∷ []) (is_word word (codes "run") r) in
+    subst (AsksFor (word ∷ [])) (some_same commands.Run c e) asks
+script_ok word c false false p r e = cc
+
 pub asks_ok : (words : List (List ℕ)) (c : Command) → asked words ≡ Some c → AsksFor words c
 asks_ok [] c e = cc
 asks_ok (word ∷ []) c e =
-    let p = given (bytes_eq word (codes "play")) (Some commands.Play) c e in
-    let asks : AsksFor (word ∷ []) commands.Play = ap (λ w. w ∷ []) (is_word word (codes "play") p.0) in
-    subst (AsksFor (word ∷ [])) (some_same commands.Play c p.1) asks
+    script_ok word c (bytes_eq word (codes "play")) (bytes_eq word (codes "run")) refl refl e
 asks_ok (word ∷ first ∷ []) c e = cc
 asks_ok (word ∷ first ∷ second ∷ []) c e =
     let p = given (bytes_eq word (codes "soak")) (soak_by (number_of first) (number_of second)) c e in
@@ -43,6 +50,7 @@ asks_ok (word ∷ first ∷ second ∷ third ∷ more) c e = cc
 
 pub asks_from : (words : List (List ℕ)) (c : Command) → AsksFor words c → asked words ≡ Some c
 asks_from words commands.Play h = ap asked h
+asks_from words commands.Run h = ap asked h
 asks_from words (commands.Soak start calls) h =
     let soak : soak_by (Some start) (Some calls) ≡ Some (commands.Soak start calls) = rw (le-leb 1 calls h.5, le-leb calls 65536 h.6) refl in
     ap asked h.2 ∙ rw (number_from h.0 start h.3, number_from h.1 calls h.4) soak

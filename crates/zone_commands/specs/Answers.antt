@@ -1,5 +1,5 @@
 -- What each answer of the program says
-use Rattle.std.specs.Prelude.{◌≡◌, ◌⊎◌, ◌+◌, ℕ, ◌≤◌, ◌<◌, List, [], ◌∷◌, ◌++◌, length, Option, Some, Result, Err, codes}
+use Rattle.std.specs.Prelude.{◌≡◌, ◌⊎◌, ◌+◌, ℕ, ◌≤◌, ◌<◌, List, [], ◌∷◌, ◌++◌, length, Option, Some, Result, Ok, Err, codes}
 use Rattle.std.specs.Io.KnownBytes.{Consumes, IsAtEnd}
 use Rattle.std.specs.Fmt.{decimal}
 use Rattle.az_outside.specs.Causes.{Rose}
@@ -35,21 +35,34 @@ pub record IsPlayed (bytes text : List ℕ) : Type 0 where
   pub ordered : IsPlayOf script.options (requests_of script) history stats
   pub fixed : IsText text script.options history stats
 
--- all was read, at most so many bytes, and the text of a history of the script was written
-pub record Played (limit : ℕ) (old new : Option (List ℕ)) (grew : List ℕ → Type 0) : Type 0 where
+-- the bytes are a script, and the text is that of a history of it: one of the texts that are read
+pub record IsRun (bytes text : List ℕ) : Type 0 where
+  pub script : Script
+  pub history : List Entry
+  pub stats : Stats
+  pub parsed : IsScript bytes script
+  pub ran : IsHistoryOf script.options (requests_of script) history stats
+  pub fixed : IsText text script.options history stats
+
+-- the bytes are a script
+abbrev pub ForScripts : (List ℕ → List ℕ → Type 0) → Type 0
+ForScripts Of = (bytes text : List ℕ) → Of bytes text → (script : Script) × IsScript bytes script
+
+-- all was read, at most so many bytes, and the text of what the command makes of them was written
+pub record Written (Of : List ℕ → List ℕ → Type 0) (limit : ℕ) (old new : Option (List ℕ)) (grew : List ℕ → Type 0) : Type 0 where
   pub bytes : List ℕ
   pub text : List ℕ
   pub read : GaveAll old new bytes
   pub short : length bytes ≤ limit
-  pub played : IsPlayed bytes text
+  pub made : Of bytes text
   pub written : grew text
 
 -- the same, but only a front of the text was written
-pub record PlayedPart (old new : Option (List ℕ)) (grew : List ℕ → Type 0) : Type 0 where
+pub record WrittenPart (Of : List ℕ → List ℕ → Type 0) (old new : Option (List ℕ)) (grew : List ℕ → Type 0) : Type 0 where
   pub bytes : List ℕ
   pub text : List ℕ
   pub read : GaveAll old new bytes
-  pub played : IsPlayed bytes text
+  pub made : Of bytes text
   pub written : GrewByFront grew text
 
 -- all was read, at most so many bytes, and it is no script, for this reason
@@ -86,19 +99,33 @@ abbrev pub IfRefused : {T : Type 0} → Result T Stop → (Cause → ℕ → Typ
 IfRefused (Err (stops.Refused cause line)) P = P cause line
 IfRefused _ P = Unit {0}
 
+-- the status of what stopped a command, and what was said
+abbrev pub ToldStop : Stop → Status → (List ℕ → Type 0) → ℕ → ℕ → Type 0
+ToldStop (stops.Refused cause line) s said before now =
+    ((s ≡ status.ScriptRefused) × Says before now said (refusal_text cause line)) ⊎ ((s ≡ status.NoMemory) × Says before now said (told (codes "no memory")))
+ToldStop stops.ReadFault s said before now = (s ≡ status.ReadFault) × Says before now said (told (codes "read fault"))
+ToldStop stops.WriteFault s said before now = (s ≡ status.WriteFault) × Says before now said (told (codes "write fault"))
+ToldStop stops.NoMemory s said before now = (s ≡ status.NoMemory) × Says before now said (told (codes "no memory"))
+ToldStop stops.TooLong s said before now = (s ≡ status.TooLong) × Says before now said (told (codes "too long"))
+
+-- the same where nothing may have stopped it
+abbrev pub Told : Result Unit Stop → Status → (List ℕ → Type 0) → ℕ → ℕ → Type 0
+Told (Ok u) s said before now = (s ≡ status.Done) × said []
+Told (Err stop) s said before now = ToldStop stop s said before now
+
 -- the bytes alone determine the status: TooLong past the limit, and else by whether they are a script
 pub record IsAnswerTo (limit : ℕ) (bytes : List ℕ) (s : Status) : Type 0 where
   pub long : limit < length bytes → s ≡ status.TooLong
   pub played : (script : Script) → length bytes ≤ limit → IsScript bytes script → s ≡ status.Done
   pub refused : (refusal : Refusal) → length bytes ≤ limit → IsRefused bytes refusal → s ≡ status.ScriptRefused
 
--- how the command ended: what each status says of the source, of the output and of the error output, before and after
-pub record Ended (limit : ℕ) (s : Status) (old new : Option (List ℕ)) (reads_old reads_new : ℕ) (grew : List ℕ → Type 0) (writes_old writes_new : ℕ) (said : List ℕ → Type 0) (says_old says_new : ℕ) : Type 0 where
-  pub done : s ≡ status.Done → Played limit old new grew × said []
+-- how a command that reads a script ended, which makes such texts of bytes: what each status says of the source, of the output and of the error output, before and after
+pub record Ended (Of : List ℕ → List ℕ → Type 0) (limit : ℕ) (s : Status) (old new : Option (List ℕ)) (reads_old reads_new : ℕ) (grew : List ℕ → Type 0) (writes_old writes_new : ℕ) (said : List ℕ → Type 0) (says_old says_new : ℕ) : Type 0 where
+  pub done : s ≡ status.Done → Written Of limit old new grew × said []
   pub refused : s ≡ status.ScriptRefused → (cause : Cause) × (line : ℕ) × Refuses limit old new cause line × grew [] × Says says_old says_new said (refusal_text cause line)
   pub read : s ≡ status.ReadFault → Rose reads_old reads_new × grew [] × Says says_old says_new said (told (codes "read fault"))
   pub too_long : s ≡ status.TooLong → Takes (limit + 1) old new × grew [] × Says says_old says_new said (told (codes "too long"))
-  pub write : s ≡ status.WriteFault → Rose writes_old writes_new × PlayedPart old new grew × Says says_old says_new said (told (codes "write fault"))
+  pub write : s ≡ status.WriteFault → Rose writes_old writes_new × WrittenPart Of old new grew × Says says_old says_new said (told (codes "write fault"))
   pub memory : s ≡ status.NoMemory → grew [] × Says says_old says_new said (told (codes "no memory"))
   -- where nothing fails, the bytes alone determine the status, unless memory runs out
   pub complete : (given : List ℕ) → old ≡ Some given → ¬ Rose reads_old reads_new → ¬ Rose writes_old writes_new → IsAnswerTo limit given s ⊎ (s ≡ status.NoMemory)

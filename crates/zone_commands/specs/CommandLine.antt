@@ -26,9 +26,13 @@ abbrev pub soak_by : Option ℕ → Option ℕ → Option Command
 soak_by (Some start) (Some calls) = if nat_le 1 calls && nat_le calls 65536 then Some (commands.Soak start calls) else None
 soak_by _ _ = None
 
+-- what a command word asks for alone
+abbrev pub script_by : List ℕ → Option Command
+script_by word = if bytes_eq word (codes "play") then Some commands.Play else (if bytes_eq word (codes "run") then Some commands.Run else None)
+
 -- what a command word asks for with up to two arguments
 abbrev pub command_by : List ℕ → List (List ℕ) → Option Command
-command_by word [] = if bytes_eq word (codes "play") then Some commands.Play else None
+command_by word [] = script_by word
 command_by word (start ∷ calls ∷ []) = if bytes_eq word (codes "soak") then soak_by (number_of start) (number_of calls) else None
 command_by word _ = None
 
@@ -53,6 +57,7 @@ pub record IsNumber (word : List ℕ) (n : ℕ) : Type 0 where
 -- the words are this command, said apart from how that is found
 abbrev pub AsksFor : List (List ℕ) → Command → Type 0
 AsksFor words commands.Play = words ≡ codes "play" ∷ []
+AsksFor words commands.Run = words ≡ codes "run" ∷ []
 AsksFor words (commands.Soak start calls) =
     (first : List ℕ) × (second : List ℕ) × (words ≡ codes "soak" ∷ first ∷ second ∷ []) × IsNumber first start × IsNumber second calls × (1 ≤ calls) × (calls ≤ 65536)
 

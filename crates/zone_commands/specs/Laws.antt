@@ -12,7 +12,7 @@ use Rattle.history_text.specs.Answers.{ReadsText}
 use Rattle.history_text.specs.Laws.{IsReadAs}
 use Rattle.play_core.specs.Playing.{requests_of}
 use Rattle.zone_commands.specs.declared.words.Command.{Command}
-use Rattle.zone_commands.specs.Answers.{IsPlayed}
+use Rattle.zone_commands.specs.Answers.{IsPlayed, IsRun}
 use Rattle.zone_commands.specs.CommandLine.{asked, AsksFor}
 use Rattle.zone_commands.specs.Soak.{IsSoaked}
 
@@ -29,6 +29,10 @@ HistoriesAreSpelled =
 abbrev pub TextsAreReadAsPlayed : Type 0
 TextsAreReadAsPlayed =
     (bytes text : List ℕ) (answer : Result HistoryText TextErr) (p : IsPlayed bytes text) → ReadsText text answer → IsReadAs p.script.options p.history p.stats answer
+
+abbrev pub TextsAreReadAsRun : Type 0
+TextsAreReadAsRun =
+    (bytes text : List ℕ) (answer : Result HistoryText TextErr) (p : IsRun bytes text) → ReadsText text answer → IsReadAs p.script.options p.history p.stats answer
 
 -- a start and a number of calls have one text: whoever plays their script writes the same
 abbrev pub SoaksHaveOneText : Type 0

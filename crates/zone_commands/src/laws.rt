@@ -1,5 +1,5 @@
 //! Laws over the words, and over what is written.
-ghost use Rattle.zone_commands.specs.Laws.{BytesHaveOneText, CommandsAreAsked, HistoriesAreSpelled, SoaksHaveOneText, TextsAreReadAsPlayed};
+ghost use Rattle.zone_commands.specs.Laws.{BytesHaveOneText, CommandsAreAsked, HistoriesAreSpelled, SoaksHaveOneText, TextsAreReadAsPlayed, TextsAreReadAsRun};
 
 use heap_script::{scripts_are_read, scripts_can_be_played};
 use history_text::texts_are_read_back;
@@ -29,6 +29,13 @@ pub fn texts_are_read_as_played()
     texts_are_read_back();
 }
 
+/// The same of the text of a script that threads ran.
+pub fn texts_are_read_as_run()
+    ensures { TextsAreReadAsRun }
+{
+    texts_are_read_back();
+}
+
 /// A start and a number of calls determine what `soak` writes.
 pub fn soaks_have_one_text()
     ensures { SoaksHaveOneText }
@@ -37,7 +44,7 @@ pub fn soaks_have_one_text()
     requests_are_played_in_one_way();
 }
 
-/// Words are a command exactly where they are the word `play`, or the word `soak` with a number of 64 bits and one from
+/// Words are a command exactly where they are the word `play`, the word `run`, or the word `soak` with a number of 64 bits and one from
 /// 1 to 65,536.
 pub fn commands_are_asked()
     ensures { CommandsAreAsked }

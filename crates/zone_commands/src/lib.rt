@@ -14,9 +14,10 @@ mod status;
 mod top;
 mod words;
 
+pub use command::run_command;
 pub use laws::{
     bytes_have_one_text, commands_are_asked, histories_are_spelled, soaks_have_one_text,
-    texts_are_read_as_played,
+    texts_are_read_as_played, texts_are_read_as_run,
 };
 pub use saying::say;
 pub use status::Status;

@@ -9,7 +9,7 @@ ghost use Rattle.std.specs.List.{list_any};
 ghost use Rattle.clap.specs.Words.{HasMatchesOf, takes, kind_of};
 ghost use Rattle.clap.specs.declared.error.kind.ErrorKind.TheVariants as kinds;
 ghost use Rattle.zone_commands.specs.declared.words.Command.{Command};
-ghost use Rattle.zone_commands.specs.CommandLine.{number_of, soak_by, arguments_of, asked, is_dashed, command_line, Finds};
+ghost use Rattle.zone_commands.specs.CommandLine.{number_of, script_by, soak_by, arguments_of, asked, is_dashed, command_line, Finds};
 
 use az_base::NoMemory;
 use clap::error::ErrorKind;
@@ -24,6 +24,8 @@ const MOST_CALLS: u64 = 65_536;
 pub enum Command {
     /// Plays the script that is read.
     Play,
+    /// Runs the script that is read, by a worker for each of its threads.
+    Run,
     /// Plays the generated script of this start, with from 1 to 65,536 calls.
     Soak { start: u64, calls: u32 },
 }
@@ -55,12 +57,25 @@ fn soak(start: &str, calls: &str) -> Option<Command>
     }
 }
 
+/// What a command word asks for alone; None where that is no command.
+fn script_command(word: &str) -> Option<Command>
+    ensures { result ≡ script_by word.now }
+{
+    if word == "play" {
+        Some(Command::Play)
+    } else if word == "run" {
+        Some(Command::Run)
+    } else {
+        None
+    }
+}
+
 /// What a command word asks for with its arguments; None where that is no command.
 fn command_of(word: &str, first: Option<&str>, second: Option<&str>) -> Option<Command>
     ensures { result ≡ asked (arguments_of word.now (option_map (λ s. s.now) first.entry) (option_map (λ s. s.now) second.entry)) }
 {
     match (first, second) {
-        (None, None) if word == "play" => Some(Command::Play),
+        (None, None) => script_command(word),
         (Some(start), Some(calls)) if word == "soak" => soak(start, calls),
         _ => None,
     }

@@ -1,7 +1,9 @@
 //! Scripts that collect escaped blocks, each beside its history, and generated scripts in which such collections come.
-use crate::tests::{is_played, is_written, sink, written};
+use crate::tests::{Host, is_played, is_written, sink, written};
 use std::alloc::Global;
+use std::sync::Wait;
 use std::test::*;
+use std::thread::Threads;
 
 #[test]
 fn escaped_blocks_are_collected(rt: HostRuntime) -> Result<(), Fail> {
@@ -298,7 +300,7 @@ end entries 57 blocks 1 quanta 1 retained 0 weak 0 assocs 0
         ),
     ];
     for (script, text) in &rows {
-        assert!(rt; is_played(&rt, script, text)?);
+        assert!(rt; is_played(&Host::of(&rt, rt.alloc()), script, text)?);
     }
     Ok(())
 }
@@ -317,7 +319,7 @@ fn generated_scripts_collect(rt: HostRuntime) -> Result<(), Fail> {
         ),
     ];
     for (words, text) in &rows {
-        assert!(rt; is_written(&rt, words, text)?);
+        assert!(rt; is_written(&Host::of(&rt, rt.alloc()), words, text)?);
     }
     Ok(())
 }
@@ -330,7 +332,7 @@ fn entries_in(text: &str) -> Option<u64> {
 }
 
 /// Whether the longest script is played twice alike, with no fewer entries than it has calls.
-fn longest_soak(rt: &HostRuntime) -> Result<bool, Fail> {
+fn longest_soak<R: Threads + Wait + Sync>(rt: &Host<'_, R>) -> Result<bool, Fail> {
     let words: &[&str] = &["soak", "7", "65536"];
     let mut one = sink(rt.alloc(), 0)?;
     let mut other = sink(rt.alloc(), 0)?;
@@ -345,6 +347,6 @@ fn longest_soak(rt: &HostRuntime) -> Result<bool, Fail> {
 
 #[test]
 fn the_longest_soak_is_the_same_each_time(rt: HostRuntime) -> Result<(), Fail> {
-    assert!(rt; longest_soak(&rt)?);
+    assert!(rt; longest_soak(&Host::of(&rt, rt.alloc()))?);
     Ok(())
 }

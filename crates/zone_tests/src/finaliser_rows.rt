@@ -1,5 +1,5 @@
 //! Scripts with finalisers, each beside its history: they run once, in ascending order, and may keep their blocks.
-use crate::tests::is_played;
+use crate::tests::{Host, is_played};
 use std::test::*;
 
 #[test]
@@ -264,7 +264,7 @@ end entries 11 blocks 0 quanta 0 retained 0 weak 0 assocs 0
         ),
     ];
     for (script, text) in &rows {
-        assert!(rt; is_played(&rt, script, text)?);
+        assert!(rt; is_played(&Host::of(&rt, rt.alloc()), script, text)?);
     }
     Ok(())
 }
@@ -318,7 +318,7 @@ end entries 7 blocks 0 quanta 0 retained 0 weak 0 assocs 0
         ),
     ];
     for (script, text) in &rows {
-        assert!(rt; is_played(&rt, script, text)?);
+        assert!(rt; is_played(&Host::of(&rt, rt.alloc()), script, text)?);
     }
     Ok(())
 }

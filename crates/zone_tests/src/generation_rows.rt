@@ -1,5 +1,5 @@
 //! Scripts with young collections, each beside its history: which blocks are old, and what they keep.
-use crate::tests::is_played;
+use crate::tests::{Host, is_played};
 use std::test::*;
 
 #[test]
@@ -289,7 +289,7 @@ end entries 18 blocks 1 quanta 1 retained 0 weak 0 assocs 0
         ),
     ];
     for (script, text) in &rows {
-        assert!(rt; is_played(&rt, script, text)?);
+        assert!(rt; is_played(&Host::of(&rt, rt.alloc()), script, text)?);
     }
     Ok(())
 }
@@ -515,7 +515,7 @@ end entries 20 blocks 0 quanta 0 retained 0 weak 0 assocs 0
         ),
     ];
     for (script, text) in &rows {
-        assert!(rt; is_played(&rt, script, text)?);
+        assert!(rt; is_played(&Host::of(&rt, rt.alloc()), script, text)?);
     }
     Ok(())
 }

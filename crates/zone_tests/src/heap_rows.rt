@@ -1,8 +1,10 @@
 //! Scripts that collect escaped blocks, each beside its history: what keeps a block, what becomes of weak words, and where
 //! a full zone has room again.
-use crate::tests::{is_played, text_ends};
+use crate::tests::{Host, is_played, text_ends};
 use std::alloc::Global;
+use std::sync::Wait;
 use std::test::*;
+use std::thread::Threads;
 
 #[test]
 fn blocks_are_kept_by_what_leads_to_them(rt: HostRuntime) -> Result<(), Fail> {
@@ -223,7 +225,7 @@ end entries 14 blocks 0 quanta 0 retained 0 weak 0 assocs 0
         ),
     ];
     for (script, text) in &rows {
-        assert!(rt; is_played(&rt, script, text)?);
+        assert!(rt; is_played(&Host::of(&rt, rt.alloc()), script, text)?);
     }
     Ok(())
 }
@@ -346,7 +348,7 @@ end entries 15 blocks 2 quanta 2 retained 0 weak 2 assocs 0
         ),
     ];
     for (script, text) in &rows {
-        assert!(rt; is_played(&rt, script, text)?);
+        assert!(rt; is_played(&Host::of(&rt, rt.alloc()), script, text)?);
     }
     Ok(())
 }
@@ -489,7 +491,7 @@ end entries 11 blocks 2 quanta 2048 retained 0 weak 0 assocs 0
         ),
     ];
     for (script, text) in &rows {
-        assert!(rt; is_played(&rt, script, text)?);
+        assert!(rt; is_played(&Host::of(&rt, rt.alloc()), script, text)?);
     }
     Ok(())
 }
@@ -527,7 +529,7 @@ fn chain_text(alloc: Global) -> Result<String, Fail> {
 }
 
 /// Whether the chain is collected whole.
-fn chain_is_collected(rt: &HostRuntime) -> Result<bool, Fail> {
+fn chain_is_collected<R: Threads + Wait + Sync>(rt: &Host<'_, R>) -> Result<bool, Fail> {
     let script = chain_script(rt.alloc())?;
     let text = chain_text(rt.alloc())?;
     text_ends(rt, script.as_str(), 2_000_000, text.as_str())
@@ -535,6 +537,6 @@ fn chain_is_collected(rt: &HostRuntime) -> Result<bool, Fail> {
 
 #[test]
 fn a_chain_of_20_000_blocks_is_collected(rt: HostRuntime) -> Result<(), Fail> {
-    assert!(rt; chain_is_collected(&rt)?);
+    assert!(rt; chain_is_collected(&Host::of(&rt, rt.alloc()))?);
     Ok(())
 }

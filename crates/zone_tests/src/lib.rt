@@ -10,6 +10,8 @@ mod generation_rows;
 #[cfg(test)]
 mod heap_rows;
 #[cfg(test)]
+mod runs;
+#[cfg(test)]
 mod tests;
 #[cfg(test)]
 mod thread_rows;

@@ -1,12 +1,31 @@
 use az_outside::{MemorySink, MemorySource};
 use std::alloc::Global;
+use std::sync::Wait;
 use std::test::*;
+use std::thread::Threads;
 use zone_commands::{Status, autozone};
 
 const FIRST: &str = "1 new r0 scanned 2\n";
 
 const FIRST_TEXT: &str =
     "1 new r0 scanned 2 = 1.0\n1 leave = reclaimed 1.0\nend entries 2 blocks 0 quanta 0 retained 0 weak 0 assocs 0\n";
+
+/// A runtime, and where its memory comes from.
+#[derive(Drop)]
+pub struct Host<'a, R> {
+    rt: &'a R,
+    alloc: Global,
+}
+
+impl<'a, R> Host<'a, R> {
+    pub fn of(rt: &'a R, alloc: Global) -> Host<'a, R> {
+        Host { rt, alloc }
+    }
+
+    pub fn alloc(&self) -> Global {
+        self.alloc
+    }
+}
 
 /// The words after the program's name.
 fn given(alloc: Global, words: &[&str]) -> Result<Vec<String>, Fail> {
@@ -51,8 +70,8 @@ struct End<'a> {
 }
 
 /// Runs the program, and says how it ends.
-fn run(
-    rt: &HostRuntime,
+fn run<R: Threads + Wait + Sync>(
+    rt: &Host<'_, R>,
     run: Invocation,
     out: &mut MemorySink,
     err: &mut MemorySink,
@@ -60,11 +79,15 @@ fn run(
     let alloc = rt.alloc();
     let words = given(alloc, run.words)?;
     let mut source = source(alloc, run.script, run.failing_read)?;
-    Ok(autozone(alloc, &words, &mut source, out, err))
+    Ok(autozone(rt.rt, alloc, &words, &mut source, out, err))
 }
 
 /// Whether the run ends so.
-fn ends(rt: &HostRuntime, given: Invocation, end: End) -> Result<bool, Fail> {
+fn ends<R: Threads + Wait + Sync>(
+    rt: &Host<'_, R>,
+    given: Invocation,
+    end: End,
+) -> Result<bool, Fail> {
     let mut out = sink(rt.alloc(), given.failing_write)?;
     let mut err = sink(rt.alloc(), 0)?;
     let status = run(rt, given, &mut out, &mut err)?;
@@ -86,7 +109,11 @@ fn script_run(script: &[u8]) -> Invocation<'_> {
 }
 
 /// Whether the script is played, and its text is this one.
-pub fn is_played(rt: &HostRuntime, script: &str, text: &str) -> Result<bool, Fail> {
+pub fn is_played<R: Threads + Wait + Sync>(
+    rt: &Host<'_, R>,
+    script: &str,
+    text: &str,
+) -> Result<bool, Fail> {
     let end = End {
         status: Status::Done,
         out: text,
@@ -95,8 +122,42 @@ pub fn is_played(rt: &HostRuntime, script: &str, text: &str) -> Result<bool, Fai
     ends(rt, script_run(script.as_bytes()), end)
 }
 
+/// Whether a run of the script by threads ends so.
+pub fn ends_so<R: Threads + Wait + Sync>(
+    rt: &Host<'_, R>,
+    script: &str,
+    status: Status,
+    out: &str,
+    err: &str,
+) -> Result<bool, Fail> {
+    let given = Invocation {
+        words: &["run"],
+        ..script_run(script.as_bytes())
+    };
+    ends(rt, given, End { status, out, err })
+}
+
+/// Whether a run of the script by threads ends with Done, and nothing is said.
+pub fn ran<R: Threads + Wait + Sync>(
+    rt: &Host<'_, R>,
+    script: &str,
+    out: &mut MemorySink,
+) -> Result<bool, Fail> {
+    let given = Invocation {
+        words: &["run"],
+        ..script_run(script.as_bytes())
+    };
+    let mut err = sink(rt.alloc(), 0)?;
+    let status = run(rt, given, out, &mut err)?;
+    Ok(status == Status::Done && err.bytes().is_empty())
+}
+
 /// Whether the script is refused, and this is said.
-fn is_refused(rt: &HostRuntime, script: &[u8], text: &str) -> Result<bool, Fail> {
+fn is_refused<R: Threads + Wait + Sync>(
+    rt: &Host<'_, R>,
+    script: &[u8],
+    text: &str,
+) -> Result<bool, Fail> {
     let end = End {
         status: Status::ScriptRefused,
         out: "",
@@ -106,7 +167,7 @@ fn is_refused(rt: &HostRuntime, script: &[u8], text: &str) -> Result<bool, Fail>
 }
 
 /// Whether other words than the command are wrong usage.
-fn is_usage(rt: &HostRuntime, words: &[&str]) -> Result<bool, Fail> {
+fn is_usage<R: Threads + Wait + Sync>(rt: &Host<'_, R>, words: &[&str]) -> Result<bool, Fail> {
     let given = Invocation {
         words,
         ..script_run(FIRST.as_bytes())
@@ -129,21 +190,29 @@ fn words_run<'a>(words: &'a [&'a str]) -> Invocation<'a> {
 }
 
 /// Whether these words end with Done, and nothing is said.
-pub fn written(rt: &HostRuntime, words: &[&str], out: &mut MemorySink) -> Result<bool, Fail> {
+pub fn written<R: Threads + Wait + Sync>(
+    rt: &Host<'_, R>,
+    words: &[&str],
+    out: &mut MemorySink,
+) -> Result<bool, Fail> {
     let mut err = sink(rt.alloc(), 0)?;
     let status = run(rt, words_run(words), out, &mut err)?;
     Ok(status == Status::Done && err.bytes().is_empty())
 }
 
 /// Whether these words write this text.
-pub fn is_written(rt: &HostRuntime, words: &[&str], text: &str) -> Result<bool, Fail> {
+pub fn is_written<R: Threads + Wait + Sync>(
+    rt: &Host<'_, R>,
+    words: &[&str],
+    text: &str,
+) -> Result<bool, Fail> {
     let mut out = sink(rt.alloc(), 0)?;
     let done = written(rt, words, &mut out)?;
     Ok(done && out.bytes() == text.as_bytes())
 }
 
 /// Whether the read of this turn is said to have failed.
-fn read_fails(rt: &HostRuntime, turn: u64) -> Result<bool, Fail> {
+fn read_fails<R: Threads + Wait + Sync>(rt: &Host<'_, R>, turn: u64) -> Result<bool, Fail> {
     let given = Invocation {
         failing_read: turn,
         ..script_run(FIRST.as_bytes())
@@ -157,7 +226,7 @@ fn read_fails(rt: &HostRuntime, turn: u64) -> Result<bool, Fail> {
 }
 
 /// Whether the write of this turn is said to have failed, where those before it stand.
-fn write_fails(rt: &HostRuntime, turn: u64) -> Result<bool, Fail> {
+fn write_fails<R: Threads + Wait + Sync>(rt: &Host<'_, R>, turn: u64) -> Result<bool, Fail> {
     let given = Invocation {
         failing_write: turn,
         ..script_run(FIRST.as_bytes())
@@ -175,7 +244,7 @@ fn write_fails(rt: &HostRuntime, turn: u64) -> Result<bool, Fail> {
 }
 
 /// Whether the first script is played where only later reads and writes would fail.
-fn later_turns_fail(rt: &HostRuntime) -> Result<bool, Fail> {
+fn later_turns_fail<R: Threads + Wait + Sync>(rt: &Host<'_, R>) -> Result<bool, Fail> {
     let given = Invocation {
         failing_read: 3,
         failing_write: 12,
@@ -198,14 +267,14 @@ fn first_scripts(rt: HostRuntime) -> Result<(), Fail> {
         ("\n# nothing\n\t \n", empty),
     ];
     for (script, text) in &rows {
-        assert!(rt; is_played(&rt, script, text)?);
+        assert!(rt; is_played(&Host::of(&rt, rt.alloc()), script, text)?);
     }
     Ok(())
 }
 
 #[test]
 fn other_words_are_wrong_usage(rt: HostRuntime) -> Result<(), Fail> {
-    let rows: [&[&str]; 29] = [
+    let rows: [&[&str]; 30] = [
         &[],
         &[""],
         &["Play"],
@@ -223,7 +292,8 @@ fn other_words_are_wrong_usage(rt: HostRuntime) -> Result<(), Fail> {
         &["play", "--"],
         &["--", "play"],
         &["play", "1", "2", "3"],
-        &["run"],
+        &["run", "now"],
+        &["RUN"],
         &["soak"],
         &["soak", "7"],
         &["soak", "0", "0"],
@@ -237,7 +307,7 @@ fn other_words_are_wrong_usage(rt: HostRuntime) -> Result<(), Fail> {
         &["soak", "+", "1"],
     ];
     for words in &rows {
-        assert!(rt; is_usage(&rt, words)?);
+        assert!(rt; is_usage(&Host::of(&rt, rt.alloc()), words)?);
     }
     Ok(())
 }
@@ -272,7 +342,7 @@ fn generated_scripts_are_summed_up(rt: HostRuntime) -> Result<(), Fail> {
         ),
     ];
     for (words, text) in &rows {
-        assert!(rt; is_written(&rt, words, text)?);
+        assert!(rt; is_written(&Host::of(&rt, rt.alloc()), words, text)?);
     }
     Ok(())
 }
@@ -280,7 +350,7 @@ fn generated_scripts_are_summed_up(rt: HostRuntime) -> Result<(), Fail> {
 #[test]
 fn reads_may_fail_at_any_turn(rt: HostRuntime) -> Result<(), Fail> {
     for turn in 1..=2 {
-        assert!(rt; read_fails(&rt, turn)?);
+        assert!(rt; read_fails(&Host::of(&rt, rt.alloc()), turn)?);
     }
     Ok(())
 }
@@ -289,19 +359,24 @@ fn reads_may_fail_at_any_turn(rt: HostRuntime) -> Result<(), Fail> {
 #[test]
 fn writes_may_fail_at_any_turn(rt: HostRuntime) -> Result<(), Fail> {
     for turn in 1..=11 {
-        assert!(rt; write_fails(&rt, turn)?);
+        assert!(rt; write_fails(&Host::of(&rt, rt.alloc()), turn)?);
     }
     Ok(())
 }
 
 #[test]
 fn later_faults_are_not_met(rt: HostRuntime) -> Result<(), Fail> {
-    assert!(rt; later_turns_fail(&rt)?);
+    assert!(rt; later_turns_fail(&Host::of(&rt, rt.alloc()))?);
     Ok(())
 }
 
 /// Whether a script of one line of so many bytes ends so.
-fn line_ends(rt: &HostRuntime, size: usize, status: Status, err: &str) -> Result<bool, Fail> {
+fn line_ends<R: Threads + Wait + Sync>(
+    rt: &Host<'_, R>,
+    size: usize,
+    status: Status,
+    err: &str,
+) -> Result<bool, Fail> {
     let script = vec![in rt.alloc(); b'1'; size]?;
     let end = End {
         status,
@@ -322,7 +397,7 @@ fn a_script_may_have_so_many_bytes(rt: HostRuntime) -> Result<(), Fail> {
         (4_194_305, Status::TooLong, "autozone: too long\n"),
     ];
     for (size, status, err) in &rows {
-        assert!(rt; line_ends(&rt, *size, *status, err)?);
+        assert!(rt; line_ends(&Host::of(&rt, rt.alloc()), *size, *status, err)?);
     }
     Ok(())
 }
@@ -340,7 +415,7 @@ fn options_bound_the_zone(rt: HostRuntime) -> Result<(), Fail> {
         ),
     ];
     for (script, text) in &rows {
-        assert!(rt; is_played(&rt, script, text)?);
+        assert!(rt; is_played(&Host::of(&rt, rt.alloc()), script, text)?);
     }
     Ok(())
 }
@@ -391,7 +466,7 @@ fn worked_scripts(rt: HostRuntime) -> Result<(), Fail> {
         ),
     ];
     for (script, text) in &rows {
-        assert!(rt; is_played(&rt, script, text)?);
+        assert!(rt; is_played(&Host::of(&rt, rt.alloc()), script, text)?);
     }
     Ok(())
 }
@@ -435,7 +510,7 @@ fn counts_and_associations(rt: HostRuntime) -> Result<(), Fail> {
         ),
     ];
     for (script, text) in &rows {
-        assert!(rt; is_played(&rt, script, text)?);
+        assert!(rt; is_played(&Host::of(&rt, rt.alloc()), script, text)?);
     }
     Ok(())
 }
@@ -463,7 +538,7 @@ fn weak_locations(rt: HostRuntime) -> Result<(), Fail> {
         ),
     ];
     for (script, text) in &rows {
-        assert!(rt; is_played(&rt, script, text)?);
+        assert!(rt; is_played(&Host::of(&rt, rt.alloc()), script, text)?);
     }
     Ok(())
 }
@@ -477,7 +552,12 @@ fn large_sink(alloc: Global, room: usize) -> Result<MemorySink, Fail> {
 }
 
 /// Whether the script is played, and its text, which has so many bytes at most, ends so.
-pub fn text_ends(rt: &HostRuntime, script: &str, room: usize, text: &str) -> Result<bool, Fail> {
+pub fn text_ends<R: Threads + Wait + Sync>(
+    rt: &Host<'_, R>,
+    script: &str,
+    room: usize,
+    text: &str,
+) -> Result<bool, Fail> {
     let mut out = large_sink(rt.alloc(), room)?;
     let mut err = sink(rt.alloc(), 0)?;
     let status = run(rt, script_run(script.as_bytes()), &mut out, &mut err)?;
@@ -485,7 +565,7 @@ pub fn text_ends(rt: &HostRuntime, script: &str, room: usize, text: &str) -> Res
 }
 
 /// Whether a tree of 1,000 blocks escapes whole.
-fn tree_escapes(rt: &HostRuntime) -> Result<bool, Fail> {
+fn tree_escapes<R: Threads + Wait + Sync>(rt: &Host<'_, R>) -> Result<bool, Fail> {
     let mut script = String::new(rt.alloc());
     for _ in 0..500 {
         script.push_str(
@@ -501,7 +581,7 @@ const TREE_TEXT: &str =
 
 #[test]
 fn a_tree_of_1000_blocks_escapes_in_one_call(rt: HostRuntime) -> Result<(), Fail> {
-    assert!(rt; tree_escapes(&rt)?);
+    assert!(rt; tree_escapes(&Host::of(&rt, rt.alloc()))?);
     Ok(())
 }
 
@@ -531,13 +611,18 @@ fn scripts_are_refused(rt: HostRuntime) -> Result<(), Fail> {
         (b"1 stats\noption heap 1\n", "autozone: line 2: NoThread\n"),
     ];
     for (script, text) in &rows {
-        assert!(rt; is_refused(&rt, script, text)?);
+        assert!(rt; is_refused(&Host::of(&rt, rt.alloc()), script, text)?);
     }
     Ok(())
 }
 
 /// Whether a script of so many of the byte is refused, and this is said; it is played where nothing is said.
-fn repeated(rt: &HostRuntime, byte: u8, size: usize, err: &str) -> Result<bool, Fail> {
+fn repeated<R: Threads + Wait + Sync>(
+    rt: &Host<'_, R>,
+    byte: u8,
+    size: usize,
+    err: &str,
+) -> Result<bool, Fail> {
     let script = vec![in rt.alloc(); byte; size]?;
     if err.is_empty() {
         let empty = "end entries 0 blocks 0 quanta 0 retained 0 weak 0 assocs 0\n";
@@ -560,7 +645,7 @@ fn lines_have_bounds(rt: HostRuntime) -> Result<(), Fail> {
         (b'\n', 65_536, ""),
     ];
     for (byte, size, err) in &rows {
-        assert!(rt; repeated(&rt, *byte, *size, err)?);
+        assert!(rt; repeated(&Host::of(&rt, rt.alloc()), *byte, *size, err)?);
     }
     Ok(())
 }

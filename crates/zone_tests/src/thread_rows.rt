@@ -1,8 +1,10 @@
 //! Scripts of several threads, of which some collect escaped blocks: a collection finds what the others held when they
 //! last published.
-use crate::tests::is_played;
+use crate::tests::{Host, is_played};
 use std::alloc::Global;
+use std::sync::Wait;
 use std::test::*;
+use std::thread::Threads;
 
 #[test]
 fn collections_see_what_was_published(rt: HostRuntime) -> Result<(), Fail> {
@@ -190,7 +192,7 @@ end entries 16 blocks 1 quanta 1 retained 0 weak 0 assocs 0
         ),
     ];
     for (script, text) in &rows {
-        assert!(rt; is_played(&rt, script, text)?);
+        assert!(rt; is_played(&Host::of(&rt, rt.alloc()), script, text)?);
     }
     Ok(())
 }
@@ -464,7 +466,7 @@ end entries 17 blocks 1 quanta 2 retained 0 weak 0 assocs 0
         ),
     ];
     for (script, text) in &rows {
-        assert!(rt; is_played(&rt, script, text)?);
+        assert!(rt; is_played(&Host::of(&rt, rt.alloc()), script, text)?);
     }
     Ok(())
 }
@@ -522,7 +524,7 @@ fn collecting_text(alloc: Global) -> Result<String, Fail> {
 }
 
 /// Whether sixteen threads collect in falling order.
-fn sixteen_collect(rt: &HostRuntime) -> Result<bool, Fail> {
+fn sixteen_collect<R: Threads + Wait + Sync>(rt: &Host<'_, R>) -> Result<bool, Fail> {
     let script = collecting_script(rt.alloc())?;
     let text = collecting_text(rt.alloc())?;
     is_played(rt, script.as_str(), text.as_str())
@@ -530,6 +532,6 @@ fn sixteen_collect(rt: &HostRuntime) -> Result<bool, Fail> {
 
 #[test]
 fn sixteen_threads_collect_by_turns(rt: HostRuntime) -> Result<(), Fail> {
-    assert!(rt; sixteen_collect(&rt)?);
+    assert!(rt; sixteen_collect(&Host::of(&rt, rt.alloc()))?);
     Ok(())
 }

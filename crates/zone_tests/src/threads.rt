@@ -1,8 +1,10 @@
 //! Scripts of several threads: where each entry stands in the history, what escapes to others, and what a thread
 //! collects by itself.
-use crate::tests::is_played;
+use crate::tests::{Host, is_played};
 use std::alloc::Global;
+use std::sync::Wait;
 use std::test::*;
+use std::thread::Threads;
 
 #[test]
 fn entries_wait_for_their_thread(rt: HostRuntime) -> Result<(), Fail> {
@@ -150,7 +152,7 @@ end entries 9 blocks 1 quanta 1 retained 0 weak 0 assocs 0
         ),
     ];
     for (script, text) in &rows {
-        assert!(rt; is_played(&rt, script, text)?);
+        assert!(rt; is_played(&Host::of(&rt, rt.alloc()), script, text)?);
     }
     Ok(())
 }
@@ -277,7 +279,7 @@ end entries 11 blocks 2 quanta 2 retained 0 weak 0 assocs 0
         ),
     ];
     for (script, text) in &rows {
-        assert!(rt; is_played(&rt, script, text)?);
+        assert!(rt; is_played(&Host::of(&rt, rt.alloc()), script, text)?);
     }
     Ok(())
 }
@@ -569,7 +571,7 @@ end entries 25 blocks 3 quanta 3 retained 0 weak 0 assocs 0
         ),
     ];
     for (script, text) in &rows {
-        assert!(rt; is_played(&rt, script, text)?);
+        assert!(rt; is_played(&Host::of(&rt, rt.alloc()), script, text)?);
     }
     Ok(())
 }
@@ -599,6 +601,6 @@ fn sixteen_threads(alloc: Global) -> Result<(String, String), Fail> {
 #[test]
 fn sixteen_threads_end_in_rising_order(rt: HostRuntime) -> Result<(), Fail> {
     let (script, text) = sixteen_threads(rt.alloc())?;
-    assert!(rt; is_played(&rt, script.as_str(), text.as_str())?);
+    assert!(rt; is_played(&Host::of(&rt, rt.alloc()), script.as_str(), text.as_str())?);
     Ok(())
 }
