@@ -18,7 +18,8 @@
 //! # What each call costs
 //!
 //! O(1) expected, but for: `insert` and all that reads words O(words read); `times`, `set_times` O(threads that hold the
-//! block); `reserve` O(lengths), and O(blocks) where the table grows; `age_all` O(blocks); `remove_all` O(blocks removed).
+//! block); `reserve` O(lengths), and O(blocks) where a list grows; `age_all` O(quanta of the subzones); `remove_all`
+//! O(words and quanta of the blocks that go).
 #![tactic(auto)]
 
 mod holders;
