@@ -16,7 +16,7 @@ use Rattle.escape_plan.specs.Together.{Belongs}
 use Rattle.local_set.specs.declared.errors.LocalErr.{LocalErr}
 use Rattle.local_set.specs.declared.errors.LocalErr.TheVariants as err
 use Rattle.local_set.specs.Calls.{Answers, Made, Same, entry_of}
-use Rattle.local_set.specs.Holds.{word_holds}
+use Rattle.zone_model.specs.Holds.{word_holds}
 use Rattle.local_set.specs.LocalSets.{LocalSet, part_in, held_in}
 use Rattle.zone_escape.specs.Cores.{IsUnused}
 use Rattle.zone_escape.proofs.Making.{belongs_now}

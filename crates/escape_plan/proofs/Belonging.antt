@@ -21,7 +21,7 @@ use Rattle.block_table.specs.Table.{used_by}
 use Rattle.shared_heap.specs.Shared.{Shared}
 use Rattle.shared_heap.proofs.Sums.{used_stands, full_stands}
 use Rattle.shared_heap.proofs.Shut.{holds_its_own}
-use Rattle.local_set.specs.Holds.{word_holds}
+use Rattle.zone_model.specs.Holds.{word_holds}
 use Rattle.local_set.specs.LocalSets.{LocalSet, part_in, held_in, blocks_of}
 use Rattle.local_set.specs.Tables.{Distinct}
 use Rattle.local_set.proofs.Sorting.{listed_distinct}

@@ -1,61 +1,31 @@
--- How often a thread holds a block is counted alike by its set and by the heap
-use Rattle.std.proofs.Common.{◌≡◌, ℕ, ◌+◌, ◌<◌, ◌==◌, ◌&&◌, ◌||◌, zero, suc, Bool, true, false, cond, List, [], ◌∷◌, ◌++◌, Option, Some, None, slice_get, refl, sym, ap, subst, ◌∙◌, arith}
-use Rattle.std.proofs.lemmas.List.Sums.{sum_by-cons}
+-- Which of some words refer to a block, and which pairs of thread and block are theirs
+use Rattle.std.proofs.Common.{◌≡◌, ℕ, ◌+◌, ◌<◌, ◌==◌, ◌&&◌, ◌||◌, zero, suc, Bool, true, false, cond, List, [], ◌∷◌, ◌++◌, Some, slice_get, refl, sym, ap, subst, ◌∙◌, arith}
 use Rattle.std.specs.List.{list_any}
-use Rattle.std.specs.FinMap.{FinMap}
 use Rattle.az_base.specs.declared.block_id.BlockId.{BlockId}
 use Rattle.az_base.specs.declared.word.Word.{Word}
 use Rattle.az_base.specs.declared.word.Word.TheVariants as word
-use Rattle.az_base.specs.Ids.{id_cmp, same_id}
-use Rattle.az_base.proofs.Ids.{same_turned}
-use Rattle.zone_model.specs.Maps.{total}
-use Rattle.zone_model.specs.Part.{Part}
-use Rattle.zone_model.specs.State.{Block, referent}
-use Rattle.shared_heap.specs.Holding.{refers_to, is_block, times_in, registers_with, holds_of, is_off, pairs_in}
-use Rattle.local_set.specs.Holds.{one_if, words_to, register_holds, outs}
+use Rattle.az_base.specs.Ids.{same_id}
+use Rattle.zone_model.specs.Holds.{words_to}
+use Rattle.shared_heap.specs.Holding.{refers_to, is_off, pairs_in}
+use Rattle.shared_heap.proofs.Unheld.{word_more}
 use Rattle.escape_plan.specs.Moving.{refer_to}
 
-word_more : (q : BlockId) (w : Word) (ws : List Word) → times_in q (w ∷ ws) ≡ cond {A = ℕ} (refers_to q w) 1 0 + times_in q ws
-word_more q w ws = sum_by-cons (λ x. cond (refers_to q x) 1 0) w ws
-
-word_one : (q : BlockId) (w : Word) → cond (refers_to q w) 1 0 ≡ one_if q (referent (Some w))
-word_one q word.Null = refl
-word_one q (word.Number n) = refl
-word_one q (word.Block b) = ap (λ t. cond t 1 0) (same_turned b q)
-
-words_are : (q : BlockId) (ws : List Word) → times_in q ws ≡ words_to q ws
-words_are q [] = refl
-words_are q (w ∷ ws) = word_more q w ws ∙ ap (λ n. n + times_in q ws) (word_one q w) ∙ ap (λ n. one_if q (referent (Some w)) + n) (words_are q ws)
-
-block_one : (q : BlockId) (o : Option BlockId) → cond (is_block q o) 1 0 ≡ one_if q o
-block_one q None = refl
-block_one q (Some b) = ap (λ t. cond t 1 0) (same_turned b q)
-
-registers_are : (n : ℕ) (f : ℕ → Option BlockId) (q : BlockId) → registers_with n f q ≡ register_holds f q n
-registers_are zero f q = refl
-registers_are (suc n) f q = ap (λ k. k + cond (is_block q (f n)) 1 0) (registers_are n f q) ∙ ap (λ k. register_holds f q n + k) (block_one q (f n))
-
--- the heap's count is the set's
-pub holds_are_outs : (p : Part) (q : BlockId) → holds_of p q ≡ outs p q
-holds_are_outs p q = ap (λ k. k + total (λ id b. times_in q b.words) p.blocks) (registers_are 16 p.registers q)
-    ∙ ap (λ (f : BlockId → Block → ℕ). register_holds p.registers q 16 + total f p.blocks) (λ i id b. words_are q b.words i)
-
 -- the words that refer to a block
-pub none_refers : (words : List Word) (q : BlockId) → refer_to words q ≡ false → times_in q words ≡ 0
+pub none_refers : (words : List Word) (q : BlockId) → refer_to words q ≡ false → words_to q words ≡ 0
 none_refers [] q h = refl
 none_refers (w ∷ words) q h = word_more q w words ∙ go (refers_to q w) h (none_refers words q)
   where
-    go : (b : Bool) → (b || refer_to words q) ≡ false → (refer_to words q ≡ false → times_in q words ≡ 0) → cond b 1 0 + times_in q words ≡ 0
+    go : (b : Bool) → (b || refer_to words q) ≡ false → (refer_to words q ≡ false → words_to q words ≡ 0) → cond b 1 0 + words_to q words ≡ 0
     go true h rest = cc
-    go false h rest = let n : times_in q words ≡ 0 = rest h in omega (arith, n)
+    go false h rest = let n : words_to q words ≡ 0 = rest h in omega (arith, n)
 
-pub some_refers : (words : List Word) (q : BlockId) → refer_to words q ≡ true → 0 < times_in q words
+pub some_refers : (words : List Word) (q : BlockId) → refer_to words q ≡ true → 0 < words_to q words
 some_refers [] q h = cc
 some_refers (w ∷ words) q h = subst (λ n. 0 < n) (sym (word_more q w words)) (go (refers_to q w) h (some_refers words q))
   where
-    go : (b : Bool) → (b || refer_to words q) ≡ true → (refer_to words q ≡ true → 0 < times_in q words) → 0 < cond b 1 0 + times_in q words
+    go : (b : Bool) → (b || refer_to words q) ≡ true → (refer_to words q ≡ true → 0 < words_to q words) → 0 < cond b 1 0 + words_to q words
     go true h rest = omega arith
-    go false h rest = let n : 0 < times_in q words = rest h in omega (arith, n)
+    go false h rest = let n : 0 < words_to q words = rest h in omega (arith, n)
 
 -- a pair that isn't among those of another thread
 pub other_pairs : (t u : ℕ) (words : List Word) (q : BlockId) → (t == u) ≡ false → is_off (pairs_in t words ++ []) u q ≡ false

@@ -19,7 +19,8 @@ use Rattle.zone_model.specs.State.{State, Block, is_escaped, is_own}
 use Rattle.zone_model.proofs.Blocks.{is_out, left_get, got_escaped, escape_at, own_thread}
 use Rattle.zone_model.proofs.PartChanges.{escaped_part}
 use Rattle.zone_model.proofs.PartNeeds.{in_part, part_has}
-use Rattle.shared_heap.specs.Holding.{holds_of, times_in, is_off, pairs_in, HoldsAgree, HoldsAdmitted, HoldsSet}
+use Rattle.zone_model.specs.Holds.{holds_of, words_to}
+use Rattle.shared_heap.specs.Holding.{is_off, pairs_in, HoldsAgree, HoldsAdmitted, HoldsSet}
 use Rattle.block_table.specs.Stored.{newly}
 use Rattle.shared_heap.specs.Shared.{Shared, held, admitted}
 use Rattle.heap_tables.specs.Standing.{escaped_view}
@@ -28,11 +29,10 @@ use Rattle.shared_heap.specs.Steps.{IsUnescaped}
 use Rattle.shared_heap.proofs.Admitting.{holds_split, still_out}
 use Rattle.shared_heap.proofs.Holding.{held_admitted}
 use Rattle.shared_heap.proofs.Unheld.{admitted_but, own_still}
-use Rattle.local_set.specs.Holds.{outs}
 use Rattle.local_set.specs.LocalSets.{LocalSet, part_in}
 use Rattle.escape_plan.specs.Moving.{Agree, refer_to, Told, CanTell, CanMove, Moves}
 use Rattle.escape_plan.specs.Planning.{length_at, quanta_at, lengths_of, sum_of}
-use Rattle.escape_plan.proofs.Counting.{holds_are_outs, none_refers, some_refers, other_pairs}
+use Rattle.escape_plan.proofs.Counting.{none_refers, some_refers, other_pairs}
 
 -- a block of the heap is one that has escaped
 view_out : (n : ℕ) (o : Option Block) → is_some (escaped_view n o) ≡ is_out o
@@ -64,7 +64,7 @@ module _ (l : LocalSet) (h : Shared) (z : State) (id : BlockId) (layout : Layout
   pub absent : get h.blocks id ≡ None
   absent = a.stands.blocks id ∙ ap (escaped_view z.reclaims) unescaped
 
-  split : (u : ℕ) (q : BlockId) → IsTrue (is_escaped z q) → held h u q ≡ holds_of (part_of after u) q + cond (id.thread == u) (times_in q words) 0
+  split : (u : ℕ) (q : BlockId) → IsTrue (is_escaped z q) → held h u q ≡ holds_of (part_of after u) q + cond (id.thread == u) (words_to q words) 0
   split u q out = a.holds u q out ∙ holds_split z id layout words unescaped u q
 
   -- what its words refer to is held by its thread
@@ -73,19 +73,19 @@ module _ (l : LocalSet) (h : Shared) (z : State) (id : BlockId) (layout : Layout
       let out : IsTrue (is_escaped z q) = sym (there_out h z q a.stands) ∙ there in
       let sum = split m.thread q out in
       let this : (id.thread == m.thread) ≡ true = let e : id.thread ≡ m.thread = of_thread ∙ sym same in grind (arith, nat_tests) in
-      let some : 0 < times_in q words = some_refers words q refers in
-      let all : held h m.thread q ≡ holds_of (part_of after m.thread) q + times_in q words = sum ∙ ap (λ b. holds_of (part_of after m.thread) q + cond b (times_in q words) 0) this in
+      let some : 0 < words_to q words = some_refers words q refers in
+      let all : held h m.thread q ≡ holds_of (part_of after m.thread) q + words_to q words = sum ∙ ap (λ b. holds_of (part_of after m.thread) q + cond b (words_to q words) 0) this in
       inl (omega (arith, some, all))
 
   module _ (m : LocalSet) (told in_it k : Shared) (thread : m.thread ≡ l.thread) (part : part_in m ≡ leave_part (part_in l) (same_id id)) (t : Told m h told (refer_to words))
-      (admitted_it : HoldsAdmitted told in_it id) (set : HoldsSet in_it k m.thread id (outs (part_in m) id)) where
+      (admitted_it : HoldsAdmitted told in_it id) (set : HoldsSet in_it k m.thread id (holds_of (part_in m) id)) where
     part_after : part_in m ≡ part_of after m.thread
     part_after = part ∙ ap (λ p. leave_part p (same_id id)) a.part ∙ sym (escaped_part z (same_id id) l.thread) ∙ ap (part_of after) (sym thread)
 
-    outs_are : (u : ℕ) (q : BlockId) → (m.thread == u) ≡ true → outs (part_in m) q ≡ holds_of (part_of after u) q
+    outs_are : (u : ℕ) (q : BlockId) → (m.thread == u) ≡ true → holds_of (part_in m) q ≡ holds_of (part_of after u) q
     outs_are u q e =
         let same : m.thread ≡ u = grind (arith, nat_tests) in
-        ap (λ p. outs p q) (part_after ∙ ap (part_of after) same) ∙ sym (holds_are_outs (part_of after u) q)
+        ap (λ p. holds_of p q) (part_after ∙ ap (part_of after) same)
 
     id_turn : (u : ℕ) (b : Bool) → (m.thread == u) ≡ b → (id.thread == u) ≡ b
     id_turn u b e = ap (λ n. n == u) (of_thread ∙ sym thread) ∙ e
@@ -106,29 +106,29 @@ module _ (l : LocalSet) (h : Shared) (z : State) (id : BlockId) (layout : Layout
             there : is_some (get h.blocks q) ≡ true
             there = there_out h z q a.stands ∙ was
 
-            test : (x y : Bool) → (m.thread == u) ≡ x → refer_to words q ≡ y → cond ((m.thread == u) && (refer_to words q && is_some (get h.blocks q))) (outs (part_in m) q) (held h u q) ≡ cond (x && (y && true)) (outs (part_in m) q) (held h u q)
-            test x y e f = ap (λ b. cond (b && (refer_to words q && is_some (get h.blocks q))) (outs (part_in m) q) (held h u q)) e
-                ∙ ap (λ b. cond (x && (b && is_some (get h.blocks q))) (outs (part_in m) q) (held h u q)) f ∙ ap (λ b. cond (x && (y && b)) (outs (part_in m) q) (held h u q)) there
+            test : (x y : Bool) → (m.thread == u) ≡ x → refer_to words q ≡ y → cond ((m.thread == u) && (refer_to words q && is_some (get h.blocks q))) (holds_of (part_in m) q) (held h u q) ≡ cond (x && (y && true)) (holds_of (part_in m) q) (held h u q)
+            test x y e f = ap (λ b. cond (b && (refer_to words q && is_some (get h.blocks q))) (holds_of (part_in m) q) (held h u q)) e
+                ∙ ap (λ b. cond (x && (b && is_some (get h.blocks q))) (holds_of (part_in m) q) (held h u q)) f ∙ ap (λ b. cond (x && (y && b)) (holds_of (part_in m) q) (held h u q)) there
 
-            cases : (x : Bool) → (m.thread == u) ≡ x → (y : Bool) → refer_to words q ≡ y → cond ((m.thread == u) && (refer_to words q && is_some (get h.blocks q))) (outs (part_in m) q) (held h u q) ≡ holds_of (part_of after u) q
+            cases : (x : Bool) → (m.thread == u) ≡ x → (y : Bool) → refer_to words q ≡ y → cond ((m.thread == u) && (refer_to words q && is_some (get h.blocks q))) (holds_of (part_in m) q) (held h u q) ≡ holds_of (part_of after u) q
             cases true e true f = test true true e f ∙ outs_are u q e
             cases true e false f =
-                let sum = split u q was ∙ ap (λ b. holds_of (part_of after u) q + cond b (times_in q words) 0) (id_turn u true e) in
-                let none : times_in q words ≡ 0 = none_refers words q f in
+                let sum = split u q was ∙ ap (λ b. holds_of (part_of after u) q + cond b (words_to q words) 0) (id_turn u true e) in
+                let none : words_to q words ≡ 0 = none_refers words q f in
                 test true false e f ∙ sum ∙ (omega (arith, none))
             cases false e y f =
-                let sum = split u q was ∙ ap (λ b. holds_of (part_of after u) q + cond b (times_in q words) 0) (id_turn u false e) in
+                let sum = split u q was ∙ ap (λ b. holds_of (part_of after u) q + cond b (words_to q words) 0) (id_turn u false e) in
                 test false y e f ∙ sum ∙ omega arith
 
-        by_id : (s : Bool) → same_id id q ≡ s → (x : Bool) → (m.thread == u) ≡ x → cond ((m.thread == u) && same_id id q) (outs (part_in m) id) (held in_it u q) ≡ holds_of (part_of after u) q
+        by_id : (s : Bool) → same_id id q ≡ s → (x : Bool) → (m.thread == u) ≡ x → cond ((m.thread == u) && same_id id q) (holds_of (part_in m) id) (held in_it u q) ≡ holds_of (part_of after u) q
         by_id true s true e =
-            ap (λ b. cond (b && same_id id q) (outs (part_in m) id) (held in_it u q)) e ∙ ap (λ b. cond b (outs (part_in m) id) (held in_it u q)) s
+            ap (λ b. cond (b && same_id id q) (holds_of (part_in m) id) (held in_it u q)) e ∙ ap (λ b. cond b (holds_of (part_in m) id) (held in_it u q)) s
             ∙ outs_are u id e ∙ ap (holds_of (part_of after u)) (same_is id q s)
         by_id true s false e =
-            ap (λ b. cond (b && same_id id q) (outs (part_in m) id) (held in_it u q)) e ∙ admitted_it u q ∙ ap (λ b. cond b 0 (held told u q)) s
+            ap (λ b. cond (b && same_id id q) (holds_of (part_in m) id) (held in_it u q)) e ∙ admitted_it u q ∙ ap (λ b. cond b 0 (held told u q)) s
             ∙ sym (unheld u e (subst (λ x. IsTrue (is_escaped after x)) (sym (same_is id q s)) out)) ∙ ap (holds_of (part_of after u)) (same_is id q s)
         by_id false s x e =
-            ap (λ b. cond ((m.thread == u) && b) (outs (part_in m) id) (held in_it u q)) s ∙ no_test (m.thread == u) (outs (part_in m) id) (held in_it u q)
+            ap (λ b. cond ((m.thread == u) && b) (holds_of (part_in m) id) (held in_it u q)) s ∙ no_test (m.thread == u) (holds_of (part_in m) id) (held in_it u q)
             ∙ admitted_it u q ∙ ap (λ b. cond b 0 (held told u q)) s ∙ one_told (m.thread == u) refl (refer_to words q) refl (still_out z id layout words unescaped q s out)
           where
             no_test : (b : Bool) (n k : ℕ) → cond (b && false) n k ≡ k

@@ -11,17 +11,17 @@ use Rattle.zone_model.specs.State.{State}
 use Rattle.shared_heap.specs.Holding.{refers_to, HoldsSet}
 use Rattle.shared_heap.specs.Shared.{Shared, held, holding}
 use Rattle.shared_heap.specs.Stands.{Stands}
-use Rattle.local_set.specs.Holds.{outs}
+use Rattle.zone_model.specs.Holds.{holds_of}
 use Rattle.local_set.specs.LocalSets.{LocalSet, part_in}
 use Rattle.local_set.proofs.Lists.{next_taken}
 use Rattle.escape_plan.specs.Moving.{refer_to, Told, CanTell}
 use Rattle.escape_plan.proofs.Counting.{refer_more, refer_at}
 
 -- one block was told
-pub told_block : (l : LocalSet) (h k : Shared) (id : BlockId) (w : Word) (t n : ℕ) → w ≡ word.Block id → t ≡ l.thread → n ≡ outs (part_in l) id → is_some (get h.blocks id) ≡ true
+pub told_block : (l : LocalSet) (h k : Shared) (id : BlockId) (w : Word) (t n : ℕ) → w ≡ word.Block id → t ≡ l.thread → n ≡ holds_of (part_in l) id → is_some (get h.blocks id) ≡ true
     → HoldsSet h k t id n → k ≡ holding h t id n → ((z : State) → Stands h z → Stands k z) → Told l h k (λ q. refers_to q w)
 told_block l h k id w t n refers thread is there set value stands = record {
-  held = λ u q. set u q ∙ ap (λ x. cond ((x == u) && same_id id q) n (held h u q)) thread ∙ go u q (same_id id q) refl ∙ ap (λ (v : Word). cond ((l.thread == u) && (refers_to q v && is_some (get h.blocks q))) (outs (part_in l) q) (held h u q)) (sym refers);
+  held = λ u q. set u q ∙ ap (λ x. cond ((x == u) && same_id id q) n (held h u q)) thread ∙ go u q (same_id id q) refl ∙ ap (λ (v : Word). cond ((l.thread == u) && (refers_to q v && is_some (get h.blocks q))) (holds_of (part_in l) q) (held h u q)) (sym refers);
   rest = value ∙ ap (λ m. record h { holds = m }) (sym (ap (λ (s : Shared). s.holds) value));
   stands = stands;
 }
@@ -30,19 +30,19 @@ told_block l h k id w t n refers thread is there set value stands = record {
     none true x y v = refl
     none false x y v = refl
 
-    go : (u : ℕ) (q : BlockId) (s : Bool) → same_id id q ≡ s → cond ((l.thread == u) && same_id id q) n (held h u q) ≡ cond ((l.thread == u) && (same_id id q && is_some (get h.blocks q))) (outs (part_in l) q) (held h u q)
+    go : (u : ℕ) (q : BlockId) (s : Bool) → same_id id q ≡ s → cond ((l.thread == u) && same_id id q) n (held h u q) ≡ cond ((l.thread == u) && (same_id id q && is_some (get h.blocks q))) (holds_of (part_in l) q) (held h u q)
     go u q false e =
-        ap (λ b. cond ((l.thread == u) && b) n (held h u q)) e ∙ none (l.thread == u) n (outs (part_in l) q) (held h u q)
-        ∙ ap (λ b. cond ((l.thread == u) && (b && is_some (get h.blocks q))) (outs (part_in l) q) (held h u q)) (sym e)
+        ap (λ b. cond ((l.thread == u) && b) n (held h u q)) e ∙ none (l.thread == u) n (holds_of (part_in l) q) (held h u q)
+        ∙ ap (λ b. cond ((l.thread == u) && (b && is_some (get h.blocks q))) (holds_of (part_in l) q) (held h u q)) (sym e)
     go u q true e =
         let same : id ≡ q = same_is id q e in
-        ap (λ b. cond ((l.thread == u) && b) n (held h u q)) e ∙ ap (λ x. cond ((l.thread == u) && true) x (held h u q)) (is ∙ ap (outs (part_in l)) same)
-        ∙ ap (λ b. cond ((l.thread == u) && b) (outs (part_in l) q) (held h u q)) (sym (ap (λ x. is_some (get h.blocks x)) (sym same) ∙ there))
-        ∙ ap (λ b. cond ((l.thread == u) && (b && is_some (get h.blocks q))) (outs (part_in l) q) (held h u q)) (sym e)
+        ap (λ b. cond ((l.thread == u) && b) n (held h u q)) e ∙ ap (λ x. cond ((l.thread == u) && true) x (held h u q)) (is ∙ ap (holds_of (part_in l)) same)
+        ∙ ap (λ b. cond ((l.thread == u) && b) (holds_of (part_in l) q) (held h u q)) (sym (ap (λ x. is_some (get h.blocks x)) (sym same) ∙ there))
+        ∙ ap (λ b. cond ((l.thread == u) && (b && is_some (get h.blocks q))) (holds_of (part_in l) q) (held h u q)) (sym e)
 
 -- none was told
 pub told_none : (l : LocalSet) (h : Shared) → Told l h h (refer_to [])
-told_none l h = record { held = λ u q. go (l.thread == u) (outs (part_in l) q) (held h u q); rest = refl; stands = λ z s. s }
+told_none l h = record { held = λ u q. go (l.thread == u) (holds_of (part_in l) q) (held h u q); rest = refl; stands = λ z s. s }
   where
     go : (b : Bool) (x y : ℕ) → y ≡ cond (b && false) x y
     go true x y = refl
@@ -53,10 +53,10 @@ pub told_more : (l : LocalSet) (h mid k : Shared) (ws : List Word) (i : ℕ) (w 
 told_more l h mid k ws i w at first then = record {
   held = λ u q.
       then.held u q
-      ∙ ap (λ (s : Shared). cond ((l.thread == u) && (refers_to q w && is_some (get s.blocks q))) (outs (part_in l) q) (held mid u q)) first.rest
-      ∙ ap (cond ((l.thread == u) && (refers_to q w && is_some (get h.blocks q))) (outs (part_in l) q)) (first.held u q)
-      ∙ both (l.thread == u) (refer_to (take i ws) q) (refers_to q w) (is_some (get h.blocks q)) (outs (part_in l) q) (held h u q)
-      ∙ ap (λ b. cond ((l.thread == u) && (b && is_some (get h.blocks q))) (outs (part_in l) q) (held h u q)) (sym (refer_more (take i ws) w q) ∙ ap (λ l. refer_to l q) (next_taken ws i w at));
+      ∙ ap (λ (s : Shared). cond ((l.thread == u) && (refers_to q w && is_some (get s.blocks q))) (holds_of (part_in l) q) (held mid u q)) first.rest
+      ∙ ap (cond ((l.thread == u) && (refers_to q w && is_some (get h.blocks q))) (holds_of (part_in l) q)) (first.held u q)
+      ∙ both (l.thread == u) (refer_to (take i ws) q) (refers_to q w) (is_some (get h.blocks q)) (holds_of (part_in l) q) (held h u q)
+      ∙ ap (λ b. cond ((l.thread == u) && (b && is_some (get h.blocks q))) (holds_of (part_in l) q) (held h u q)) (sym (refer_more (take i ws) w q) ∙ ap (λ l. refer_to l q) (next_taken ws i w at));
   rest = then.rest ∙ ap (λ (s : Shared). record s { holds = k.holds }) first.rest;
   stands = λ z s. then.stands z (first.stands z s);
 }
@@ -78,12 +78,12 @@ can_next l h mid ws i w at can first q refers there = go (can q (refer_at ws i w
     same : (l.thread == l.thread) ≡ true
     same = grind (arith, nat_tests)
 
-    now : (b : Bool) → refer_to (take i ws) q ≡ b → held mid l.thread q ≡ cond b (outs (part_in l) q) (held h l.thread q)
+    now : (b : Bool) → refer_to (take i ws) q ≡ b → held mid l.thread q ≡ cond b (holds_of (part_in l) q) (held h l.thread q)
     now b e =
-        first.held l.thread q ∙ ap (λ x. cond (x && (refer_to (take i ws) q && is_some (get h.blocks q))) (outs (part_in l) q) (held h l.thread q)) same
-        ∙ ap (λ x. cond (x && is_some (get h.blocks q)) (outs (part_in l) q) (held h l.thread q)) e ∙ ap (λ x. cond (b && x) (outs (part_in l) q) (held h l.thread q)) was ∙ plain b
+        first.held l.thread q ∙ ap (λ x. cond (x && (refer_to (take i ws) q && is_some (get h.blocks q))) (holds_of (part_in l) q) (held h l.thread q)) same
+        ∙ ap (λ x. cond (x && is_some (get h.blocks q)) (holds_of (part_in l) q) (held h l.thread q)) e ∙ ap (λ x. cond (b && x) (holds_of (part_in l) q) (held h l.thread q)) was ∙ plain b
       where
-        plain : (b : Bool) → cond (b && true) (outs (part_in l) q) (held h l.thread q) ≡ cond b (outs (part_in l) q) (held h l.thread q)
+        plain : (b : Bool) → cond (b && true) (holds_of (part_in l) q) (held h l.thread q) ≡ cond b (holds_of (part_in l) q) (held h l.thread q)
         plain true = refl
         plain false = refl
 
@@ -91,7 +91,7 @@ can_next l h mid ws i w at can first q refers there = go (can q (refer_at ws i w
     some_or_none zero = inr refl
     some_or_none (suc n) = inl (omega arith)
 
-    go : (0 < held h l.thread q) ⊎ (outs (part_in l) q ≡ 0) → (b : Bool) → refer_to (take i ws) q ≡ b → (0 < held mid l.thread q) ⊎ (outs (part_in l) q ≡ 0)
+    go : (0 < held h l.thread q) ⊎ (holds_of (part_in l) q ≡ 0) → (b : Bool) → refer_to (take i ws) q ≡ b → (0 < held mid l.thread q) ⊎ (holds_of (part_in l) q ≡ 0)
     go (inr none) b e = inr none
-    go (inl some) true e = elim (some_or_none (outs (part_in l) q)) [ inl k ↦ inl (subst (λ n. 0 < n) (sym (now true e)) k) | inr k ↦ inr k ]
+    go (inl some) true e = elim (some_or_none (holds_of (part_in l) q)) [ inl k ↦ inl (subst (λ n. 0 < n) (sym (now true e)) k) | inr k ↦ inr k ]
     go (inl some) false e = inl (subst (λ n. 0 < n) (sym (now false e)) some)

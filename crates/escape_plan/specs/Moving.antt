@@ -13,7 +13,7 @@ use Rattle.shared_heap.specs.Holding.{HoldsAgree, HoldsItsOwn, refers_to}
 use Rattle.block_table.specs.Table.{used_by}
 use Rattle.shared_heap.specs.Shared.{Shared, held}
 use Rattle.shared_heap.specs.Stands.{Stands}
-use Rattle.local_set.specs.Holds.{outs}
+use Rattle.zone_model.specs.Holds.{holds_of}
 use Rattle.local_set.specs.LocalSets.{LocalSet, part_in}
 use Rattle.local_set.specs.Tables.{Distinct}
 use Rattle.escape_plan.specs.Escapes.{KeepsCycle}
@@ -34,13 +34,13 @@ refer_to words q = list_any (refers_to q) words
 
 -- the heap was told how often the thread holds each block of the heap that passes the test, and nothing else
 pub record Told (l : LocalSet) (old new : Shared) (test : BlockId → Bool) : Type 0 where
-  pub held : (u : ℕ) (q : BlockId) → held new u q ≡ (if (l.thread == u) && (test q && is_some (get old.blocks q)) then outs (part_in l) q else held old u q)
+  pub held : (u : ℕ) (q : BlockId) → held new u q ≡ (if (l.thread == u) && (test q && is_some (get old.blocks q)) then holds_of (part_in l) q else held old u q)
   pub rest : new ≡ record old { holds = new.holds }
   pub stands : (z : State) → Stands old z → Stands new z
 
 -- the heap can be told without memory: the thread holds the block by the table, or no longer at all
 abbrev pub CanTell : LocalSet → Shared → (BlockId → Bool) → Type 0
-CanTell l h test = (q : BlockId) → test q ≡ true → is_some (get h.blocks q) ≡ true → (0 < held h l.thread q) ⊎ (outs (part_in l) q ≡ 0)
+CanTell l h test = (q : BlockId) → test q ≡ true → is_some (get h.blocks q) ≡ true → (0 < held h l.thread q) ⊎ (holds_of (part_in l) q ≡ 0)
 
 -- the blocks may be moved to the heap one after another, which has room for them
 pub record CanMove (l : LocalSet) (h : Shared) (ids : List BlockId) : Type 0 where

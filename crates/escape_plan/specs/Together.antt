@@ -9,7 +9,7 @@ use Rattle.zone_model.specs.State.{State}
 use Rattle.shared_heap.specs.Holding.{HoldsAgree}
 use Rattle.shared_heap.specs.Shared.{Shared}
 use Rattle.shared_heap.specs.Stands.{Stands}
-use Rattle.local_set.specs.Holds.{word_holds}
+use Rattle.zone_model.specs.Holds.{word_holds}
 use Rattle.local_set.specs.LocalSets.{LocalSet, part_in, held_in, blocks_of}
 
 -- the set belongs to the state: its waiting entries are local steps from its thread's part of the state to its own part, and what

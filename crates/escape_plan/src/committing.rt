@@ -28,7 +28,7 @@ fn tell_word(local: &Local, heap: &mut Heap, word: Word)
     if !heap.has(*id) {
         return;
     }
-    let holds = local.outs(*id);
+    let holds = local.holds_of(*id);
     let Ok(()) = heap.hold_count(local.thread(), *id, holds) else {
         unreachable!()
     };
@@ -54,7 +54,7 @@ fn move_one(local: &mut Local, heap: &mut Heap, id: BlockId)
     let (layout, words) = local.take_out(*id);
     tell_words(local, heap, &words);
     heap.admit(*id, layout, words);
-    let Ok(()) = heap.hold_count(local.thread(), *id, local.outs(*id)) else {
+    let Ok(()) = heap.hold_count(local.thread(), *id, local.holds_of(*id)) else {
         unreachable!()
     };
 }

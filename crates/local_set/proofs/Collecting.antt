@@ -10,7 +10,7 @@ use Rattle.zone_model.specs.LocalSteps.{IsFound}
 use Rattle.zone_model.proofs.Totals.{total-retain_keys}
 use Rattle.az_base.specs.Ids.{ids_total, exact_ids}
 use Rattle.local_set.specs.LocalSets.{LocalSet, Table, part_in, held_in, blocks_of}
-use Rattle.local_set.specs.Holds.{words_to, word_holds}
+use Rattle.zone_model.specs.Holds.{words_to, word_holds}
 use Rattle.local_set.specs.Tables.{NotesReferents}
 use Rattle.local_set.specs.Walks.{IsReached}
 

@@ -1,6 +1,6 @@
 -- Counts of references that rise and fall
-use Rattle.az_base.proofs.Ids.{same_self}
-use Rattle.std.proofs.Common.{◌≡◌, ℕ, ◌+◌, ◌≤◌, Bool, true, false, cond, Option, Some, None, MatchOption, ◌<◌, zero, suc, refl, ap, ◌∙◌, arith}
+use Rattle.az_base.proofs.Ids.{same_self, same_turned}
+use Rattle.std.proofs.Common.{◌≡◌, ℕ, ◌+◌, ◌≤◌, Bool, true, false, cond, Option, Some, None, MatchOption, ◌<◌, zero, suc, refl, sym, ap, ◌∙◌, arith}
 use Rattle.std.specs.Option.{unwrap_or}
 use Rattle.std.specs.declared.cmp.Ordering.{Ordering}
 use Rattle.std.specs.declared.cmp.Ordering.TheVariants.{Less, Equal, Greater}
@@ -10,7 +10,7 @@ use Rattle.az_base.specs.declared.block_id.BlockId.{BlockId}
 use Rattle.az_base.specs.Ids.{id_cmp, same_id, ids_total, exact_ids}
 use Rattle.retain_table.specs.Counted.{count_of, with_count}
 use Rattle.zone_model.specs.State.{Block}
-use Rattle.local_set.specs.Holds.{one_if, word_holds}
+use Rattle.zone_model.specs.Holds.{one_if, word_holds}
 use Rattle.local_set.specs.Counting.{count_in, IsCounted}
 use Rattle.local_set.specs.declared.references.References.{References}
 
@@ -28,7 +28,7 @@ count_set m k (suc n) q = ap (λ o. unwrap_or o 0) (get-insert ids_total m k (su
     turn false = refl
 
 pub count_risen : (m : FinMap id_cmp ℕ) (k : BlockId) (n : ℕ) (q : BlockId) → n ≡ count_of m k + 1 → count_of (with_count m k n) q ≡ count_of m q + one_if q (Some k)
-count_risen m k n q h = count_set m k n q ∙ at (id_cmp q k) refl
+count_risen m k n q h = count_set m k n q ∙ at (id_cmp q k) refl ∙ sym (ap (λ t. count_of m q + cond t 1 0) (same_turned k q))
   where
     at : (r : Ordering) → id_cmp q k ≡ r → cond (is_eq r) n (count_of m q) ≡ count_of m q + cond (is_eq r) 1 0
     at Less e = omega arith
@@ -36,7 +36,7 @@ count_risen m k n q h = count_set m k n q ∙ at (id_cmp q k) refl
     at Greater e = omega arith
 
 pub count_fallen : (m : FinMap id_cmp ℕ) (k : BlockId) (n : ℕ) (q : BlockId) → n + 1 ≡ count_of m k → count_of (with_count m k n) q + one_if q (Some k) ≡ count_of m q
-count_fallen m k n q h = ap (λ x. x + one_if q (Some k)) (count_set m k n q) ∙ at (id_cmp q k) refl
+count_fallen m k n q h = ap (λ x. x + one_if q (Some k)) (count_set m k n q) ∙ ap (λ t. cond (same_id q k) n (count_of m q) + cond t 1 0) (same_turned k q) ∙ at (id_cmp q k) refl
   where
     at : (r : Ordering) → id_cmp q k ≡ r → cond (is_eq r) n (count_of m q) + cond (is_eq r) 1 0 ≡ count_of m q
     at Less e = omega arith

@@ -1,5 +1,5 @@
 -- What a write changes in a table of blocks
-use Rattle.az_base.proofs.Ids.{same_self}
+use Rattle.az_base.proofs.Ids.{same_self, same_turned}
 use Rattle.std.proofs.Common.{◌≡◌, ℕ, ◌+◌, ◌<◌, ◌≤◌, Bool, true, false, cond, ◌||◌, List, length, get_or, Option, Some, None, MatchOption, slice_get, slice_set, option_and_then, refl, sym, ap, ◌∙◌, arith}
 use Rattle.std.specs.FinMap.{FinMap, get}
 use Rattle.std.proofs.lemmas.Option.{slice_get-get_or}
@@ -14,7 +14,7 @@ use Rattle.block_layouts.specs.Layouts.{class_at}
 use Rattle.block_layouts.proofs.Fitting.{place_within}
 use Rattle.zone_model.specs.State.{Block, referent, reference, with_edit}
 use Rattle.block_layouts.specs.Fitting.{Suits, FitsAt, Fits}
-use Rattle.local_set.specs.Holds.{one_if, words_to, word_holds}
+use Rattle.zone_model.specs.Holds.{one_if, words_to, word_holds}
 use Rattle.local_set.specs.Counting.{list_of}
 use Rattle.local_set.proofs.Quantities.{holds_edited, holds_there, refers_there}
 
@@ -77,7 +77,7 @@ module _ (m : FinMap id_cmp Block) (id : BlockId) (at : ℕ) (was : Word) where
 -- a block that isn't among those is not one of them
 pub not_listed : (q : BlockId) (o : Option BlockId) → among (list_of o) q ≡ false → one_if q o ≡ 0
 not_listed q None h = refl
-not_listed q (Some b) h = go (same_id q b) h
+not_listed q (Some b) h = ap (λ t. cond t 1 0) (same_turned b q) ∙ go (same_id q b) h
   where
     go : (t : Bool) → (t || false) ≡ false → ◌≡◌ {A = ℕ} (cond t 1 0) 0
     go true h = cc

@@ -17,7 +17,8 @@ use Rattle.zone_model.specs.State.{Block, referent, with_edit}
 use Rattle.zone_model.specs.Quanta.{quanta_where}
 use Rattle.zone_model.specs.Part.{own_block}
 use Rattle.zone_model.proofs.Totals.{total_added}
-use Rattle.local_set.specs.Holds.{one_if, words_to, word_holds, one_if_some, references_in}
+use Rattle.zone_model.specs.Holds.{one_if, words_to, word_holds}
+use Rattle.local_set.specs.WordReferences.{one_if_some, references_in}
 use Rattle.local_set.proofs.Tables.{put_back, left_itself}
 
 -- the quanta of the blocks

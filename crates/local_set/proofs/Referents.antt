@@ -1,5 +1,5 @@
 -- The blocks to which words refer
-use Rattle.az_base.proofs.Ids.{among_cases, same_is, same_self}
+use Rattle.az_base.proofs.Ids.{among_cases, same_is, same_self, same_turned}
 use Rattle.std.proofs.Common.{◌≡◌, ℕ, ◌+◌, ◌<◌, Bool, true, false, cond, ◌||◌, List, [], ◌∷◌, ◌++◌, take, Option, Some, None, slice_get, refl, sym, ap, subst, ◌∙◌, arith, inl, inr}
 use Rattle.std.specs.List.{cons_option}
 use Rattle.std.specs.FinMap.{get}
@@ -8,7 +8,7 @@ use Rattle.az_base.specs.declared.word.Word.{Word}
 use Rattle.az_base.specs.Ids.{among, same_id}
 use Rattle.zone_model.specs.State.{Block, referent}
 use Rattle.local_set.specs.LocalSets.{Table, blocks_of}
-use Rattle.local_set.specs.Holds.{one_if, words_to}
+use Rattle.zone_model.specs.Holds.{one_if, words_to}
 use Rattle.local_set.specs.Counting.{list_of, referents}
 use Rattle.local_set.specs.Tables.{NotesReferents}
 use Rattle.local_set.proofs.Lists.{next_taken, among_before, among_behind}
@@ -39,7 +39,7 @@ referred_among q (w ∷ ws) h = go (referent (Some w)) refl (referred_among q ws
   where
     one : (b : BlockId) (t : Bool) → referent (Some w) ≡ Some b → same_id q b ≡ t → (0 < words_to q ws → among (referents ws) q ≡ true) → (t || among (referents ws) q) ≡ true
     one b true e t rest = refl
-    one b false e t rest = rest (let none : one_if q (referent (Some w)) ≡ 0 = ap (one_if q) e ∙ ap (λ t. cond t 1 0) t in omega (arith, none, h))
+    one b false e t rest = rest (let none : one_if q (referent (Some w)) ≡ 0 = ap (one_if q) e ∙ ap (λ t. cond t 1 0) (same_turned b q ∙ t) in omega (arith, none, h))
 
     go : (o : Option BlockId) → referent (Some w) ≡ o → (0 < words_to q ws → among (referents ws) q ≡ true) → among (referents (w ∷ ws)) q ≡ true
     go None e rest = ap (λ (o : Option BlockId). among (cons_option o (referents ws)) q) e ∙ rest (let none : one_if q (referent (Some w)) ≡ 0 = ap (one_if q) e in omega (arith, none, h))

@@ -6,7 +6,7 @@ use Rattle.retain_table.specs.Counted.{count_of}
 use Rattle.zone_model.specs.State.{referent}
 use Rattle.zone_model.specs.Quanta.{quanta_where}
 use Rattle.local_set.specs.LocalSets.{blocks_of}
-use Rattle.local_set.specs.Holds.{one_if, word_holds}
+use Rattle.zone_model.specs.Holds.{one_if, word_holds}
 use Rattle.local_set.specs.declared.references.References.{References}
 use Rattle.local_set.specs.declared.blocks.Blocks.TheInside.{Inside}
 

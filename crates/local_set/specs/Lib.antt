@@ -1,5 +1,5 @@
 pub mod LocalSets
-pub mod Holds
+pub mod WordReferences
 pub mod Tables
 pub mod Calls
 pub mod Counting

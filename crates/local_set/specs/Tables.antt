@@ -5,7 +5,7 @@ use Rattle.az_base.specs.declared.block_id.BlockId.{BlockId}
 use Rattle.az_base.specs.Ids.{among}
 use Rattle.zone_model.specs.State.{Block}
 use Rattle.local_set.specs.LocalSets.{Table, blocks_of}
-use Rattle.local_set.specs.Holds.{words_to, word_holds}
+use Rattle.zone_model.specs.Holds.{words_to, word_holds}
 
 -- no id stands twice
 abbrev pub Distinct : List BlockId → Type 0

@@ -15,7 +15,7 @@ ghost use Rattle.az_base.specs.declared.word.Class.TheVariants as class;
 ghost use Rattle.block_layouts.specs.Fitting.{Fits, Suits};
 ghost use Rattle.local_set.specs.LocalSets.{Table, blocks_of};
 ghost use Rattle.local_set.specs.Counting.{count_in, IsBounded};
-ghost use Rattle.local_set.specs.Holds.{word_holds, words_to};
+ghost use Rattle.zone_model.specs.Holds.{word_holds, words_to};
 ghost use Rattle.local_set.specs.Calls.{MayHold, IsAt, word_misuse};
 ghost use Rattle.local_set.specs.Tables.{AreThere, NotesChange, NotesReferents};
 

@@ -21,9 +21,9 @@
 //!   stay behind, in registers and words.
 //!
 //! The heap keeps how often each thread holds each escaped block, as last published. So the set counts in how many words
-//! every block stands, and `outs` adds the registers. What changed since the last publication is noted: `changed` has each
-//! block of which the number of words may be another, and `published` the registers as they were then. So a publication
-//! looks at what changed, and at nothing else.
+//! every block stands, and `holds_of` adds the registers. What changed since the last publication is noted: `changed` has
+//! each block of which the number of words may be another, and `published` the registers as they were then. So a
+//! publication looks at what changed, and at nothing else.
 //!
 //! - `OwnBlock` is one block: its layout, and words that fit it. `Blocks` is the table of them by id, with their quanta.
 //! - `References` counts the words that refer to each block, and notes which counts may have changed.

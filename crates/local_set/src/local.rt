@@ -7,7 +7,7 @@ ghost use Rattle.zone_model.specs.Collection.{Lists};
 ghost use Rattle.zone_model.specs.Quanta.{quanta_where};
 ghost use Rattle.zone_model.specs.Part.{opening_part, is_in, is_within as within, is_local as is_local_at, passes_local};
 ghost use Rattle.local_set.specs.LocalSets.{part_in, held_in, blocks_of};
-ghost use Rattle.local_set.specs.Holds.{outs, register_holds};
+ghost use Rattle.zone_model.specs.Holds.{holds_of, register_holds};
 ghost use Rattle.local_set.specs.Calls.{next_of, IsAt};
 
 mod births;
@@ -194,8 +194,8 @@ impl Local {
     }
 
     /// In how many registers and words of unescaped blocks the block stands. O(1) expected.
-    pub fn outs(&self, id: BlockId) -> u32
-        ensures { result ≡ outs (part_in self.now) id }
+    pub fn holds_of(&self, id: BlockId) -> u32
+        ensures { result ≡ holds_of (part_in self.now) id }
     {
         self.register_holds(id) + self.blocks.holds(id)
     }

@@ -6,7 +6,7 @@ ghost use Rattle.az_base.specs.declared.block_id.BlockId.{BlockId as ABlockId};
 ghost use Rattle.az_base.specs.Ids.{among};
 ghost use Rattle.retain_table.specs.Counted.{count_of};
 ghost use Rattle.zone_model.specs.State.{referent as referent_of};
-ghost use Rattle.local_set.specs.Holds.{one_if, words_to};
+ghost use Rattle.zone_model.specs.Holds.{one_if, words_to};
 
 use az_base::{BlockId, NoMemory, Word};
 use retain_table::Counts;

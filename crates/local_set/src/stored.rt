@@ -5,7 +5,7 @@ ghost use Rattle.block_layouts.specs.Layouts.{class_at, same_class, len_of, quan
 ghost use Rattle.zone_model.specs.Part.{own_block};
 ghost use Rattle.block_layouts.specs.Fitting.{Fits, FitsAt};
 ghost use Rattle.local_set.specs.Calls.{word_misuse};
-ghost use Rattle.local_set.specs.Holds.{references_in};
+ghost use Rattle.local_set.specs.WordReferences.{references_in};
 
 use az_base::{Class, Misuse, NoMemory, Word};
 use block_layouts::Layout;
@@ -43,7 +43,7 @@ impl Model for OwnBlock {
     ghost use Rattle.std.specs.Prelude.{◌≡◌, [], false, None};
     ghost use Rattle.zone_model.specs.State.{Block};
     ghost use Rattle.block_layouts.specs.Fitting.{Fits};
-    ghost use Rattle.local_set.specs.Holds.{references_in};
+    ghost use Rattle.local_set.specs.WordReferences.{references_in};
 
     ghost Value = { Block };
 

@@ -199,7 +199,7 @@ fn knows_its_own(alloc: Global, local: &mut Local, other: &BlockId, reg: Reg) ->
         (Store(1, 1, 0), Done),
         (Copy(2, 0), Done),
     ];
-    are_answered(alloc, local, &refused) && !local.is_own(*other) && local.outs(*other) == 4
+    are_answered(alloc, local, &refused) && !local.is_own(*other) && local.holds_of(*other) == 4
 }
 
 /// Whether a dead block's references to it don't count once they are collected.
@@ -209,7 +209,7 @@ fn forgets_the_dead(alloc: Global, local: &mut Local, other: &BlockId) -> bool
 {
     let rows = [(Drop(1), Done), (Drop(2), Done), (Collect, Gone(&[0]))];
     are_answered(alloc, local, &rows)
-        && local.outs(*other) == 1
+        && local.holds_of(*other) == 1
         && local.changed().contains(other)
         && local.own_quanta() == 0
 }
@@ -243,7 +243,7 @@ fn receives_over_the_last(alloc: Global, local: &mut Local, other: &BlockId, reg
     }
     local.receive(reg, Some(*other));
     are_answered(alloc, local, &[(Collect, Gone(&[0])), (Collect, Gone(&[]))])
-        && local.outs(*other) == 1
+        && local.holds_of(*other) == 1
 }
 
 #[test]
@@ -293,7 +293,7 @@ fn takes_the_middle(alloc: Global, local: &mut Local, reg: Reg) -> bool
     ];
     layout.len() == 1
         && words.len() == 1
-        && local.outs(*id) == 2
+        && local.holds_of(*id) == 2
         && local.own_quanta() == 2
         && are_answered(alloc, local, &rows)
         && local.own_quanta() == 1

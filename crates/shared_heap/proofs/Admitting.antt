@@ -19,7 +19,8 @@ use Rattle.zone_model.proofs.PartChanges.{shown_in, part_get, escaped_part}
 use Rattle.zone_model.proofs.Totals.{total_added}
 use Rattle.shared_heap.specs.Shared.{Shared, held}
 use Rattle.shared_heap.specs.Steps.{IsUnescaped}
-use Rattle.shared_heap.specs.Holding.{times_in, holds_of, HoldsAgree, HoldsAdmitted, HoldsAsBefore}
+use Rattle.zone_model.specs.Holds.{words_to, holds_of}
+use Rattle.shared_heap.specs.Holding.{HoldsAgree, HoldsAdmitted, HoldsAsBefore}
 use Rattle.az_base.proofs.Ids.{same_turned}
 
 -- ids that the test calls the same are the same
@@ -61,17 +62,17 @@ module _ (z : State) (id : BlockId) (layout : Layout) (words : List Word) (is : 
   abbrev mine : Block
   mine = record { layout = layout; words = words; actions = []; finalised = false; since = None }
 
-  pub holds_split : (u : ℕ) (q : BlockId) → holds_of (part_of z u) q ≡ holds_of (part_of (with_escaped z (same_id id)) u) q + cond (id.thread == u) (times_in q words) 0
+  pub holds_split : (u : ℕ) (q : BlockId) → holds_of (part_of z u) q ≡ holds_of (part_of (with_escaped z (same_id id)) u) q + cond (id.thread == u) (words_to q words) 0
   holds_split u q =
-      let after : total (λ k b. times_in q b.words) (part_of (with_escaped z (same_id id)) u).blocks ≡ total (λ k b. times_in q b.words) (retain_keys (part_of z u).blocks (λ k. not (same_id id k))) =
-      ap (λ (p : Part). total (λ k b. times_in q b.words) p.blocks) (escaped_part z (same_id id) u) in
+      let after : total (λ k b. words_to q b.words) (part_of (with_escaped z (same_id id)) u).blocks ≡ total (λ k b. words_to q b.words) (retain_keys (part_of z u).blocks (λ k. not (same_id id k))) =
+      ap (λ (p : Part). total (λ k b. words_to q b.words) p.blocks) (escaped_part z (same_id id) u) in
       let before = sums (id.thread == u) (part_get z u id ∙ ap (shown_in (id.thread == u)) is) in
       rw (before, after) (omega arith)
     where
       sums : (t : Bool) → get (part_of z u).blocks id ≡ shown_in t (Some mine)
-          → total (λ k b. times_in q b.words) (part_of z u).blocks ≡ total (λ k b. times_in q b.words) (retain_keys (part_of z u).blocks (λ k. not (same_id id k))) + cond t (times_in q words) 0
-      sums true e = sum_without (part_of z u).blocks id (λ k b. times_in q b.words) mine e
-      sums false e = let same = sum_still (part_of z u).blocks id (λ k b. times_in q b.words) e in omega (arith, same)
+          → total (λ k b. words_to q b.words) (part_of z u).blocks ≡ total (λ k b. words_to q b.words) (retain_keys (part_of z u).blocks (λ k. not (same_id id k))) + cond t (words_to q words) 0
+      sums true e = sum_without (part_of z u).blocks id (λ k b. words_to q b.words) mine e
+      sums false e = let same = sum_still (part_of z u).blocks id (λ k b. words_to q b.words) e in omega (arith, same)
 
   -- another block that has escaped afterwards had escaped before
   pub still_out : (q : BlockId) → same_id id q ≡ false → IsTrue (is_escaped (with_escaped z (same_id id)) q) → IsTrue (is_escaped z q)
@@ -84,6 +85,6 @@ module _ (z : State) (id : BlockId) (layout : Layout) (words : List Word) (is : 
   pub as_before : (h new : Shared) → HoldsAgree h z → HoldsAdmitted h new id → HoldsAsBefore new (with_escaped z (same_id id)) id words
   as_before h new agree admitted u q out = admitted u q ∙ go (same_id id q) refl
     where
-      go : (t : Bool) → same_id id q ≡ t → cond t 0 (held h u q) ≡ cond t 0 (holds_of (part_of (with_escaped z (same_id id)) u) q + cond (id.thread == u) (times_in q words) 0)
+      go : (t : Bool) → same_id id q ≡ t → cond t 0 (held h u q) ≡ cond t 0 (holds_of (part_of (with_escaped z (same_id id)) u) q + cond (id.thread == u) (words_to q words) 0)
       go true e = refl
       go false e = agree u q (still_out q e out) ∙ holds_split u q

@@ -22,18 +22,19 @@ use Rattle.shared_heap.specs.Shared.{Shared, held}
 use Rattle.heap_tables.specs.Standing.{kept_of, escaped_view}
 use Rattle.shared_heap.specs.Stands.{Stands}
 use Rattle.shared_heap.specs.Steps.{names}
-use Rattle.shared_heap.specs.Holding.{is_block, registers_with, holds_of, is_off, HoldsAgree, HoldsAgreeBut, HoldsMore, HoldsSet, HoldsOnceMore, ReadsTo, pair_of, replaced}
+use Rattle.zone_model.specs.Holds.{is_block, register_holds, holds_of}
+use Rattle.shared_heap.specs.Holding.{is_off, HoldsAgree, HoldsAgreeBut, HoldsMore, HoldsSet, HoldsOnceMore, ReadsTo, pair_of, replaced}
 
 -- a register past those that are counted
-registers_past : (n to : ℕ) (v : Option BlockId) (f : ℕ → Option BlockId) (q : BlockId) → n ≤ to → registers_with n (λ r. cond (to == r) v (f r)) q ≡ registers_with n f q
+registers_past : (n to : ℕ) (v : Option BlockId) (f : ℕ → Option BlockId) (q : BlockId) → n ≤ to → register_holds (λ r. cond (to == r) v (f r)) q n ≡ register_holds f q n
 registers_past zero to v f q l = refl
 registers_past (suc n) to v f q l =
     let other : (to == n) ≡ false = grind (arith, nat_tests) in
-    ap (λ k. k + cond (is_block q (cond (to == n) v (f n))) 1 0) (registers_past n to v f q (omega arith)) ∙ ap (λ b. registers_with n f q + cond (is_block q (cond b v (f n))) 1 0) other
+    ap (λ k. k + cond (is_block q (cond (to == n) v (f n))) 1 0) (registers_past n to v f q (omega arith)) ∙ ap (λ b. register_holds f q n + cond (is_block q (cond b v (f n))) 1 0) other
 
 -- what a register held no longer counts, and what it holds does
 registers_put : (n to : ℕ) (v : Option BlockId) (f : ℕ → Option BlockId) (q : BlockId) → to < n
-    → registers_with n (λ r. cond (to == r) v (f r)) q + cond (is_block q (f to)) 1 0 ≡ registers_with n f q + cond (is_block q v) 1 0
+    → register_holds (λ r. cond (to == r) v (f r)) q n + cond (is_block q (f to)) 1 0 ≡ register_holds f q n + cond (is_block q v) 1 0
 registers_put zero to v f q l = absurd (omega arith)
 registers_put (suc n) to v f q l = at (λ k. registers_put n to v f q k) (to == n) refl
   where
@@ -43,11 +44,11 @@ registers_put (suc n) to v f q l = at (λ k. registers_put n to v f q k) (to == 
     before : to ≤ n → (to == n) ≡ false → to < n
     before l e = grind (arith, nat_tests)
 
-    at : (to < n → registers_with n g q + cond (is_block q (f to)) 1 0 ≡ registers_with n f q + cond (is_block q v) 1 0)
-        → (b : Bool) → (to == n) ≡ b → registers_with (suc n) g q + cond (is_block q (f to)) 1 0 ≡ registers_with (suc n) f q + cond (is_block q v) 1 0
+    at : (to < n → register_holds g q n + cond (is_block q (f to)) 1 0 ≡ register_holds f q n + cond (is_block q v) 1 0)
+        → (b : Bool) → (to == n) ≡ b → register_holds g q (suc n) + cond (is_block q (f to)) 1 0 ≡ register_holds f q (suc n) + cond (is_block q v) 1 0
     at rest true e =
         let same : to ≡ n = grind (arith, nat_tests) in
-        let below : registers_with n g q ≡ registers_with n f q = registers_past n to v f q (omega arith) in
+        let below : register_holds g q n ≡ register_holds f q n = registers_past n to v f q (omega arith) in
         let last : g n ≡ v = ap (λ b. cond b v (f n)) e in
         let was : f to ≡ f n = ap f same in
         rw (below, last, was) (omega arith)
@@ -58,17 +59,17 @@ registers_put (suc n) to v f q l = at (λ k. registers_put n to v f q k) (to == 
 
 -- the registers of the thread to which a register belongs, and of the others
 registers_of : (b : Bool) (to : ℕ) (v : Option BlockId) (f : ℕ → Option BlockId) (q : BlockId) → to < 16
-    → registers_with 16 (λ r. cond (b && (to == r)) v (f r)) q + cond (b && is_block q (f to)) 1 0 ≡ registers_with 16 f q + cond (b && is_block q v) 1 0
+    → register_holds (λ r. cond (b && (to == r)) v (f r)) q 16 + cond (b && is_block q (f to)) 1 0 ≡ register_holds f q 16 + cond (b && is_block q v) 1 0
 registers_of true to v f q l = registers_put 16 to v f q l
 registers_of false to v f q l = refl
 
 -- what the threads' registers hold, where a register of one was written
 pub register_moved : (z : State) (t to u : ℕ) (v : Option BlockId) (q : BlockId) → to < 16
-    → registers_with 16 (λ r. cond ((t == u) && (to == r)) v (z.registers u r)) q + cond ((t == u) && is_block q (z.registers t to)) 1 0 ≡ registers_with 16 (z.registers u) q + cond ((t == u) && is_block q v) 1 0
+    → register_holds (λ r. cond ((t == u) && (to == r)) v (z.registers u r)) q 16 + cond ((t == u) && is_block q (z.registers t to)) 1 0 ≡ register_holds (z.registers u) q 16 + cond ((t == u) && is_block q v) 1 0
 register_moved z t to u v q few = go (t == u) refl
   where
     go : (b : Bool) → (t == u) ≡ b
-        → registers_with 16 (λ r. cond ((t == u) && (to == r)) v (z.registers u r)) q + cond ((t == u) && is_block q (z.registers t to)) 1 0 ≡ registers_with 16 (z.registers u) q + cond ((t == u) && is_block q v) 1 0
+        → register_holds (λ r. cond ((t == u) && (to == r)) v (z.registers u r)) q 16 + cond ((t == u) && is_block q (z.registers t to)) 1 0 ≡ register_holds (z.registers u) q 16 + cond ((t == u) && is_block q v) 1 0
     go true e = let mine : t ≡ u = grind (arith, nat_tests) in rw mine (registers_of (u == u) to v (z.registers u) q few)
     go false e = rw e (registers_of false to v (z.registers u) q few)
 

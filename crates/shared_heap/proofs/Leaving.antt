@@ -30,7 +30,8 @@ use Rattle.zone_model.proofs.Soundness.{sound_intact}
 use Rattle.zone_model.proofs.PartChanges.{edited_others}
 use Rattle.block_table.specs.Holds.{Holds, times}
 use Rattle.shared_heap.specs.Shared.{Shared, held}
-use Rattle.shared_heap.specs.Holding.{holds_of, HoldsAgree, IsShared, LeavesParts}
+use Rattle.zone_model.specs.Holds.{holds_of}
+use Rattle.shared_heap.specs.Holding.{HoldsAgree, IsShared, LeavesParts}
 use Rattle.shared_heap.proofs.Agreeing.{outcome}
 use Rattle.shared_heap.proofs.Shut.{closed, next_unused}
 

@@ -22,7 +22,8 @@ use Rattle.zone_model.specs.State.{State, Block, is_escaped, is_own, is_unescape
 use Rattle.zone_model.proofs.Blocks.{not_both, own_inside}
 use Rattle.zone_model.proofs.MapLaws.{first, second, find_below}
 use Rattle.zone_model.proofs.PartNeeds.{in_part, part_has}
-use Rattle.shared_heap.specs.Holding.{HoldsAgree, holds_of, is_block, refers_to, registers_with, times_in}
+use Rattle.zone_model.specs.Holds.{holds_of, is_block, register_holds, words_to}
+use Rattle.shared_heap.specs.Holding.{HoldsAgree, refers_to}
 use Rattle.shared_heap.specs.Shared.{Shared, held}
 use Rattle.shared_heap.specs.Stands.{Stands}
 use Rattle.shared_heap.proofs.Admitting.{same_ids, sum_without}
@@ -56,19 +57,19 @@ this_block : (q : BlockId) (v : Option BlockId) → is_block q v ≡ true → v 
 this_block q None h = cc (h)
 this_block q (Some b) h = ap Some (same_ids b q h)
 
-some_register : (n : ℕ) (f : ℕ → Option BlockId) (q : BlockId) → 0 < registers_with n f q → (r : ℕ) × (f r ≡ Some q)
+some_register : (n : ℕ) (f : ℕ → Option BlockId) (q : BlockId) → 0 < register_holds f q n → (r : ℕ) × (f r ≡ Some q)
 some_register zero f q more = absurd (omega (arith, more))
 some_register (suc n) f q more = by (is_block q (f n)) refl (some_register n f q) more
   where
-    by : (t : Bool) → is_block q (f n) ≡ t → (0 < registers_with n f q → (r : ℕ) × (f r ≡ Some q)) → 0 < registers_with n f q + cond {A = ℕ} (is_block q (f n)) 1 0 → (r : ℕ) × (f r ≡ Some q)
+    by : (t : Bool) → is_block q (f n) ≡ t → (0 < register_holds f q n → (r : ℕ) × (f r ≡ Some q)) → 0 < register_holds f q n + cond {A = ℕ} (is_block q (f n)) 1 0 → (r : ℕ) × (f r ≡ Some q)
     by true e rest m = (n, this_block q (f n) e)
     by false e rest m = let none : cond {A = ℕ} (is_block q (f n)) 1 0 ≡ 0 = ap (λ t. cond {A = ℕ} t 1 0) e in rest (omega (arith, none, m))
 
-in_registers : (n : ℕ) (f : ℕ → Option BlockId) (q : BlockId) (r : ℕ) → r < n → f r ≡ Some q → 0 < registers_with n f q
+in_registers : (n : ℕ) (f : ℕ → Option BlockId) (q : BlockId) (r : ℕ) → r < n → f r ≡ Some q → 0 < register_holds f q n
 in_registers zero f q r l is = absurd (omega (arith, l))
 in_registers (suc n) f q r l is = by (r == n) refl (λ k. in_registers n f q r k is)
   where
-    by : (t : Bool) → (r == n) ≡ t → (r < n → 0 < registers_with n f q) → 0 < registers_with (suc n) f q
+    by : (t : Bool) → (r == n) ≡ t → (r < n → 0 < register_holds f q n) → 0 < register_holds f q (suc n)
     by true e rest =
         let at : r ≡ n = grind (arith, nat_tests) in
         let one : cond {A = ℕ} (is_block q (f n)) 1 0 ≡ 1 = ap (λ v. cond {A = ℕ} (is_block q v) 1 0) (ap f (sym at) ∙ is) ∙ ap (λ t. cond {A = ℕ} t 1 0) (same_self q) in
@@ -81,11 +82,11 @@ this_word q word.Null h = cc (h)
 this_word q (word.Block b) h = ap word.Block (same_ids b q h)
 this_word q (word.Number n) h = cc (h)
 
-some_word : (q : BlockId) (ws : List Word) → 0 < times_in q ws → (i : ℕ) × (slice_get ws i ≡ Some (word.Block q))
+some_word : (q : BlockId) (ws : List Word) → 0 < words_to q ws → (i : ℕ) × (slice_get ws i ≡ Some (word.Block q))
 some_word q [] more = absurd (omega (arith, more))
 some_word q (w ∷ ws) more = by (refers_to q w) refl (some_word q ws)
   where
-    by : (t : Bool) → refers_to q w ≡ t → (0 < times_in q ws → (i : ℕ) × (slice_get ws i ≡ Some (word.Block q))) → (i : ℕ) × (slice_get (w ∷ ws) i ≡ Some (word.Block q))
+    by : (t : Bool) → refers_to q w ≡ t → (0 < words_to q ws → (i : ℕ) × (slice_get ws i ≡ Some (word.Block q))) → (i : ℕ) × (slice_get (w ∷ ws) i ≡ Some (word.Block q))
     by true e rest = (0, ap Some (this_word q w e))
     by false e rest =
         let none : cond {A = ℕ} (refers_to q w) 1 0 ≡ 0 = ap (λ t. cond {A = ℕ} t 1 0) e in
@@ -93,7 +94,7 @@ some_word q (w ∷ ws) more = by (refers_to q w) refl (some_word q ws)
         let r = rest (omega (arith, none, sum, more)) in
         (suc r.0, r.1)
 
-in_words : (q : BlockId) (ws : List Word) (i : ℕ) → slice_get ws i ≡ Some (word.Block q) → 0 < times_in q ws
+in_words : (q : BlockId) (ws : List Word) (i : ℕ) → slice_get ws i ≡ Some (word.Block q) → 0 < words_to q ws
 in_words q [] i is = cc (is)
 in_words q (w ∷ ws) zero is =
     let one : cond {A = ℕ} (refers_to q w) 1 0 ≡ 1 = ap (λ v. cond {A = ℕ} (refers_to q v) 1 0) (some_same w (word.Block q) is) ∙ ap (λ t. cond {A = ℕ} t 1 0) (same_self q) in
@@ -109,12 +110,12 @@ module _ (h : Shared) (z : State) (stands : Stands h z) (agree : HoldsAgree h z)
   pub holds_tell : (u : ℕ) (b : BlockId) → IsSome (get h.blocks b) → 0 < held h u b → IsHeld z b ⊎ ((a : BlockId) × IsTrue (is_unescaped z a) × Edge z a b)
   holds_tell u b there more =
       let same = agree u b (escaped_here h z b stands there) in
-      by (registers_with 16 (z.registers u) b) refl (omega (arith, same, more))
+      by (register_holds (z.registers u) b 16) refl (omega (arith, same, more))
     where
-      by : (n : ℕ) → registers_with 16 (z.registers u) b ≡ n → 0 < holds_of (part_of z u) b → IsHeld z b ⊎ ((a : BlockId) × IsTrue (is_unescaped z a) × Edge z a b)
+      by : (n : ℕ) → register_holds (z.registers u) b 16 ≡ n → 0 < holds_of (part_of z u) b → IsHeld z b ⊎ ((a : BlockId) × IsTrue (is_unescaped z a) × Edge z a b)
       by (suc n) e m = let r = some_register 16 (z.registers u) b (omega (arith, e)) in inl (inl (u, r.0, r.1))
       by zero e m =
-          let k = some_counts ids_total exact_ids (λ id (x : Block). times_in b x.words) (part_of z u).blocks (omega (arith, e, m)) in
+          let k = some_counts ids_total exact_ids (λ id (x : Block). words_to b x.words) (part_of z u).blocks (omega (arith, e, m)) in
           let own : IsTrue (is_own z u k.0) = sym (in_part z u k.0) ∙ ap is_some k.2 in
           let w = some_word b k.1.words k.3 in
           inr (k.0, own_inside z u k.0 own, inl (k.1, w.0, sym (part_has z u k.0 own) ∙ k.2, w.1))
@@ -140,6 +141,6 @@ module _ (h : Shared) (z : State) (stands : Stands h z) (agree : HoldsAgree h z)
       let own : IsTrue (is_own z a.thread a) = ap (λ t. t && is_unescaped z a) (eq-eqb a.thread a.thread refl) ∙ inside in
       let here : get (part_of z a.thread).blocks a ≡ Some e.0 = part_has z a.thread a own ∙ e.2 in
       let more = in_words b e.0.words e.1 e.3 in
-      let sum = sum_without (part_of z a.thread).blocks a (λ id (x : Block). times_in b x.words) e.0 here in
+      let sum = sum_without (part_of z a.thread).blocks a (λ id (x : Block). words_to b x.words) e.0 here in
       let same = agree a.thread b out in
       (a.thread, omega (arith, more, sum, same))

@@ -1,6 +1,5 @@
 -- What no part holds, and what is left of the agreement where a block is born, where several escape, and where no part changes
 use Rattle.std.proofs.Common.{◌≡◌, ◌<◌, ◌+◌, ◌==◌, ◌&&◌, ◌||◌, ◌⊎◌, ℕ, zero, suc, Bool, true, false, cond, List, [], ◌∷◌, ◌++◌, MatchOption, Option, Some, None, IsSome, IsTrue, refl, sym, ap, subst, ◌∙◌, arith, inl, inr, slice_get, eq-eqb, eqb-true}
-use Rattle.std.proofs.lemmas.List.Sums.{sum_by-cons}
 use Rattle.std.specs.List.{count_by, list_any}
 use Rattle.std.specs.Option.{option_map, option_map_or, option_and_then}
 use Rattle.std.specs.FinMap.{FinMap, get, get-insert}
@@ -30,7 +29,8 @@ use Rattle.zone_model.proofs.Sums.{total_split}
 use Rattle.az_base.proofs.Ids.{same_turned}
 use Rattle.shared_heap.specs.Shared.{Shared, held}
 use Rattle.shared_heap.specs.Steps.{IsUnescaped, names}
-use Rattle.shared_heap.specs.Holding.{refers_to, is_block, times_in, registers_with, holds_of, is_off, HoldsAgree, HoldsAgreeBut, HoldsAdmitted, HoldsBorn, HoldsItsOwn, HoldsOnceMore, pairs_in, replaced}
+use Rattle.zone_model.specs.Holds.{is_block, words_to, register_holds, holds_of}
+use Rattle.shared_heap.specs.Holding.{refers_to, is_off, HoldsAgree, HoldsAgreeBut, HoldsAdmitted, HoldsBorn, HoldsItsOwn, HoldsOnceMore, pairs_in, replaced}
 use Rattle.shared_heap.proofs.Admitting.{same_ids, holds_split, still_out}
 use Rattle.shared_heap.proofs.Agreeing.{outcome, register_moved, moved_sums}
 use Rattle.shared_heap.proofs.Picks.{total-zero}
@@ -40,10 +40,10 @@ no_test true h = absurd (h refl)
 no_test false h = refl
 
 -- no register and no word holds the block
-no_register : (n : ℕ) (f : ℕ → Option BlockId) (q : BlockId) → ((r : ℕ) → f r ≡ Some q → ⊥) → registers_with n f q ≡ 0
+no_register : (n : ℕ) (f : ℕ → Option BlockId) (q : BlockId) → ((r : ℕ) → f r ≡ Some q → ⊥) → register_holds f q n ≡ 0
 no_register zero f q none = refl
 no_register (suc n) f q none =
-    let rest : registers_with n f q ≡ 0 = no_register n f q none in
+    let rest : register_holds f q n ≡ 0 = no_register n f q none in
     let last : cond {A = ℕ} (is_block q (f n)) 1 0 ≡ 0 = ap (λ (b : Bool). cond {A = ℕ} b 1 0) (no_test (is_block q (f n)) (found (f n) refl)) in
     omega (arith, rest, last)
   where
@@ -57,14 +57,16 @@ refers q (word.Block b) h = ap word.Block (same_ids b q h)
 refers q (word.Number n) h = cc
 
 -- one word more
-pub word_more : (q : BlockId) (w : Word) (ws : List Word) → times_in q (w ∷ ws) ≡ cond {A = ℕ} (refers_to q w) 1 0 + times_in q ws
-word_more q w ws = sum_by-cons (λ x. cond (refers_to q x) 1 0) w ws
+pub word_more : (q : BlockId) (w : Word) (ws : List Word) → words_to q (w ∷ ws) ≡ cond {A = ℕ} (refers_to q w) 1 0 + words_to q ws
+word_more q word.Null ws = refl
+word_more q (word.Block b) ws = refl
+word_more q (word.Number n) ws = refl
 
-no_word : (q : BlockId) (ws : List Word) → ((i : ℕ) → slice_get ws i ≡ Some (word.Block q) → ⊥) → times_in q ws ≡ 0
+no_word : (q : BlockId) (ws : List Word) → ((i : ℕ) → slice_get ws i ≡ Some (word.Block q) → ⊥) → words_to q ws ≡ 0
 no_word q [] none = refl
 no_word q (w ∷ ws) none =
     let first : cond {A = ℕ} (refers_to q w) 1 0 ≡ 0 = ap (λ (b : Bool). cond {A = ℕ} b 1 0) (no_test (refers_to q w) (λ h. none 0 (ap Some (refers q w h)))) in
-    let later : times_in q ws ≡ 0 = no_word q ws (λ i. none (suc i)) in
+    let later : words_to q ws ≡ 0 = no_word q ws (λ i. none (suc i)) in
     let sum = word_more q w ws in
     omega (arith, sum, first, later)
 
@@ -73,8 +75,8 @@ no_sum m f none = total_split ids_total exact_ids f (λ k b. 0) (λ k b. 0) m no
 
 pub unheld : (p : Part) (q : BlockId) → (HoldsRef p q → ⊥) → holds_of p q ≡ 0
 unheld p q none =
-    let registers : registers_with 16 p.registers q ≡ 0 = no_register 16 p.registers q (λ r e. none (inl (r, e))) in
-    let words : total (λ id b. times_in q b.words) p.blocks ≡ 0 = no_sum p.blocks (λ id b. times_in q b.words) (λ a b is. no_word q b.words (λ i e. none (inr (a, (b, i, is, e))))) in
+    let registers : register_holds p.registers q 16 ≡ 0 = no_register 16 p.registers q (λ r e. none (inl (r, e))) in
+    let words : total (λ id b. words_to q b.words) p.blocks ≡ 0 = no_sum p.blocks (λ id b. words_to q b.words) (λ a b is. no_word q b.words (λ i e. none (inr (a, (b, i, is, e))))) in
     rw (registers, words) refl
 
 -- a block of a part is one of the state, and the thread's own
@@ -155,7 +157,7 @@ module _ (z after : State) (t to : ℕ) (layout : Layout) (actions : List Action
       go (inl k) = subst (λ a. HoldsOnceMore new a t (replaced r (z.registers t to))) (sym k.1) (subst (λ x. HoldsOnceMore new (seen_now (with_new z t to layout actions)) t (replaced x (z.registers t to))) (sym k.0) (λ u q out.
           let is : held new u q ≡ cond (names r q) (cond (t == u) 1 0) (held h u q) = bore u q in
           let named : names r q ≡ same_id id q = ap (λ x. names x q) k.0 in
-          let blocks : total (λ i b. times_in q b.words) (part_of (with_new z t to layout actions) u).blocks ≡ total (λ i b. times_in q b.words) (part_of z u).blocks = ap (total (λ i b. times_in q b.words)) (born_blocks born none u) in
+          let blocks : total (λ i b. words_to q b.words) (part_of (with_new z t to layout actions) u).blocks ≡ total (λ i b. words_to q b.words) (part_of z u).blocks = ap (total (λ i b. words_to q b.words)) (born_blocks born none u) in
           let moved = register_moved z t to u (Some id) q few in
           (rw named at is) ∙ held_now u q (same_id id q) refl out ∙ (rw blocks (moved_sums _ _ _ _ _ moved))))
       go (inr k) = subst (λ a. HoldsOnceMore new a t (replaced r (z.registers t to))) (sym k.2) (subst (λ x. HoldsOnceMore new z t (replaced x (z.registers t to))) (sym k.1) (λ u q out.
@@ -169,15 +171,15 @@ module _ (z after : State) (t to : ℕ) (layout : Layout) (actions : List Action
 
 -- one more block escapes, where some pairs don't agree yet
 module _ (z : State) (id : BlockId) (layout : Layout) (words : List Word) (is : IsUnescaped z id layout words) where
-  off_other : (t u : ℕ) (q : BlockId) (ws : List Word) (off : List (ℕ × BlockId)) → is_off (pairs_in t ws ++ off) u q ≡ false → ((t == u) ≡ true → times_in q ws ≡ 0) × (is_off off u q ≡ false)
+  off_other : (t u : ℕ) (q : BlockId) (ws : List Word) (off : List (ℕ × BlockId)) → is_off (pairs_in t ws ++ off) u q ≡ false → ((t == u) ≡ true → words_to q ws ≡ 0) × (is_off off u q ≡ false)
   off_other t u q [] off h = ((λ e. refl), h)
-  off_other t u q (word.Null ∷ ws) off h = off_other t u q ws off h
-  off_other t u q (word.Number n ∷ ws) off h = off_other t u q ws off h
+  off_other t u q (word.Null ∷ ws) off h = let rest = off_other t u q ws off h in ((λ e. let none = rest.0 e in omega (arith, none)), rest.1)
+  off_other t u q (word.Number n ∷ ws) off h = let rest = off_other t u q ws off h in ((λ e. let none = rest.0 e in omega (arith, none)), rest.1)
   off_other t u q (word.Block b ∷ ws) off h = go (λ k. off_other t u q ws off k) (t == u) refl (same_id b q) refl h
     where
-      go : (is_off (pairs_in t ws ++ off) u q ≡ false → ((t == u) ≡ true → times_in q ws ≡ 0) × (is_off off u q ≡ false)) → (x : Bool) → (t == u) ≡ x → (y : Bool) → same_id b q ≡ y → ((x && y) || is_off (pairs_in t ws ++ off) u q) ≡ false → ((x ≡ true → times_in q (word.Block b ∷ ws) ≡ 0) × (is_off off u q ≡ false))
+      go : (is_off (pairs_in t ws ++ off) u q ≡ false → ((t == u) ≡ true → words_to q ws ≡ 0) × (is_off off u q ≡ false)) → (x : Bool) → (t == u) ≡ x → (y : Bool) → same_id b q ≡ y → ((x && y) || is_off (pairs_in t ws ++ off) u q) ≡ false → ((x ≡ true → words_to q (word.Block b ∷ ws) ≡ 0) × (is_off off u q ≡ false))
       go more true e true f k = cc (k)
-      go more true e false f k = ((λ s. let later = (more k).0 e in let sum = word_more q (word.Block b) ws ∙ ap (λ (y : Bool). cond {A = ℕ} y 1 0 + times_in q ws) f in omega (arith, sum, later)), (more k).1)
+      go more true e false f k = ((λ s. let later = (more k).0 e in let sum = word_more q (word.Block b) ws ∙ ap (λ (y : Bool). cond {A = ℕ} y 1 0 + words_to q ws) f in omega (arith, sum, later)), (more k).1)
       go more false e y f k = ((λ s. cc (s)), (more k).1)
 
   pub admitted_but : (h new : Shared) (off : List (ℕ × BlockId)) → HoldsItsOwn z → HoldsAgreeBut off h z → HoldsAdmitted h new id → HoldsAgreeBut ((id.thread, id) ∷ (pairs_in id.thread words ++ off)) new (with_escaped z (same_id id))
@@ -198,12 +200,12 @@ module _ (z : State) (id : BlockId) (layout : Layout) (words : List Word) (is : 
           omega (arith, nobody, split)
       go true e false f k =
           let rest = off_other id.thread u q words off k in
-          let none : times_in q words ≡ 0 = rest.0 e in
-          let split : holds_of (part_of z u) q ≡ holds_of (part_of (with_escaped z (same_id id)) u) q + cond (id.thread == u) (times_in q words) 0 = holds_split z id layout words is u q in
+          let none : words_to q words ≡ 0 = rest.0 e in
+          let split : holds_of (part_of z u) q ≡ holds_of (part_of (with_escaped z (same_id id)) u) q + cond (id.thread == u) (words_to q words) 0 = holds_split z id layout words is u q in
           agree u q (still_out z id layout words is q f out) rest.1 ∙ split ∙ (rw (e, none) (omega arith))
       go false e false f k =
           let rest = off_other id.thread u q words off k in
-          let split : holds_of (part_of z u) q ≡ holds_of (part_of (with_escaped z (same_id id)) u) q + cond (id.thread == u) (times_in q words) 0 = holds_split z id layout words is u q in
+          let split : holds_of (part_of z u) q ≡ holds_of (part_of (with_escaped z (same_id id)) u) q + cond (id.thread == u) (words_to q words) 0 = holds_split z id layout words is u q in
           agree u q (still_out z id layout words is q f out) rest.1 ∙ split ∙ (rw e (omega arith))
 
   -- each thread still holds its own alone

@@ -1,7 +1,7 @@
 -- When a heap's table of holds is that of a state
 -- A thread holds an escaped block by its registers and by the words of its unescaped blocks, of which the heap knows
 -- nothing. The heap is told the numbers, so its table may lag behind the state: here is how far.
-use Rattle.std.specs.Prelude.{◌≡◌, ◌+◌, ◌==◌, ◌&&◌, ℕ, zero, suc, Bool, false, List, [], ◌∷◌, Option, Some, None, IsTrue, IsFalse, IsSome, if◌then◌else◌, count_by}
+use Rattle.std.specs.Prelude.{◌≡◌, ◌+◌, ◌==◌, ◌&&◌, ℕ, Bool, false, List, [], ◌∷◌, Option, Some, None, IsTrue, IsFalse, IsSome, if◌then◌else◌}
 use Rattle.std.specs.List.{list_any}
 use Rattle.std.specs.FinMap.{get}
 use Rattle.az_base.specs.declared.block_id.BlockId.{BlockId}
@@ -13,9 +13,9 @@ use Rattle.zone_model.specs.declared.call.Call.TheVariants as call
 use Rattle.zone_model.specs.declared.entry.Reply.{Reply}
 use Rattle.zone_model.specs.declared.entry.Reply.TheVariants as reply
 use Rattle.zone_model.specs.Escape.{block_named}
+use Rattle.zone_model.specs.Holds.{holds_of, is_block, words_to}
 use Rattle.zone_model.specs.InRange.{InRange}
-use Rattle.zone_model.specs.Maps.{total}
-use Rattle.zone_model.specs.Part.{Part, part_of}
+use Rattle.zone_model.specs.Part.{part_of}
 use Rattle.zone_model.specs.Reach.{WordEdge}
 use Rattle.zone_model.specs.Sound.{Knows, Sound}
 use Rattle.zone_model.specs.State.{State, is_escaped, is_unescaped}
@@ -27,24 +27,6 @@ use Rattle.shared_heap.specs.Steps.{names}
 abbrev pub refers_to : BlockId → Word → Bool
 refers_to q (word.Block b) = same_id b q
 refers_to q _ = false
-
--- this is the block
-abbrev pub is_block : BlockId → Option BlockId → Bool
-is_block q (Some b) = same_id b q
-is_block q None = false
-
--- in how many of the words the block stands
-abbrev pub times_in : BlockId → List Word → ℕ
-times_in q words = count_by (refers_to q) words
-
--- in how many of the first n registers the block stands
-abbrev pub registers_with : ℕ → (ℕ → Option BlockId) → BlockId → ℕ
-registers_with zero registers q = 0
-registers_with (suc n) registers q = registers_with n registers q + (if is_block q (registers n) then 1 else 0)
-
--- how often a thread's part holds the block: in its sixteen registers, and in the words of its unescaped blocks
-abbrev pub holds_of : Part → BlockId → ℕ
-holds_of p q = registers_with 16 p.registers q + total (λ id b. times_in q b.words) p.blocks
 
 -- the thread and the block are one of these pairs
 abbrev pub is_off : List (ℕ × BlockId) → ℕ → BlockId → Bool
@@ -115,7 +97,7 @@ HoldsOnceMore h z t before = (u : ℕ) (q : BlockId) → IsTrue (is_escaped z q)
 
 -- the block that has just escaped counts as not held, and what its words hold as often as when its thread held it by them
 abbrev pub HoldsAsBefore : Shared → State → BlockId → List Word → Type 0
-HoldsAsBefore h z id words = (u : ℕ) (q : BlockId) → IsTrue (is_escaped z q) → held h u q ≡ (if same_id id q then 0 else holds_of (part_of z u) q + (if id.thread == u then times_in q words else 0))
+HoldsAsBefore h z id words = (u : ℕ) (q : BlockId) → IsTrue (is_escaped z q) → held h u q ≡ (if same_id id q then 0 else holds_of (part_of z u) q + (if id.thread == u then words_to q words else 0))
 
 -- the call reads a block into this register
 abbrev pub ReadsTo : Call → ℕ → Type 0

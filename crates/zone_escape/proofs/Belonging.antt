@@ -12,7 +12,7 @@ use Rattle.zone_model.specs.Part.{part_of, opening_part}
 use Rattle.zone_model.specs.State.{State, Block, opening, is_own}
 use Rattle.zone_model.proofs.Waiting.{local_run_more}
 use Rattle.local_set.specs.Calls.{Made, Same, entry_of}
-use Rattle.local_set.specs.Holds.{word_holds}
+use Rattle.zone_model.specs.Holds.{word_holds}
 use Rattle.local_set.specs.LocalSets.{LocalSet, part_in, held_in}
 use Rattle.escape_plan.specs.Together.{Belongs}
 use Rattle.zone_escape.specs.Cores.{CoreShown, IsCore, IsCoreOf, BelongsTo, PartsStay, IsUnused, IsOfOther}

@@ -23,18 +23,18 @@ use Rattle.zone_model.proofs.PartNeeds.{in_part}
 use Rattle.zone_model.proofs.SoundLaws.{own_part, others_parts}
 use Rattle.zone_model.proofs.Soundness.{step_sound}
 use Rattle.zone_model.proofs.Steps.{step_plain}
-use Rattle.shared_heap.specs.Holding.{is_block, holds_of, HoldsAgree}
+use Rattle.zone_model.specs.Holds.{is_block, holds_of, one_if, register_holds, word_holds}
+use Rattle.shared_heap.specs.Holding.{HoldsAgree}
 use Rattle.shared_heap.specs.Shared.{Shared, held}
 use Rattle.shared_heap.proofs.Agreeing.{here_escaped}
 use Rattle.shared_heap.proofs.Alike.{stands_same}
 use Rattle.shared_heap.proofs.Unheld.{unheld}
-use Rattle.local_set.specs.Holds.{one_if, register_holds, word_holds, outs}
 use Rattle.local_set.specs.LocalSets.{LocalSet, part_in, held_in}
 use Rattle.local_set.specs.Walks.{words_at}
 use Rattle.local_set.proofs.Lists.{next_taken, place_of}
 use Rattle.escape_plan.specs.Moving.{Told, refer_to}
-use Rattle.escape_plan.proofs.Counting.{holds_are_outs, refer_at}
-use Rattle.az_base.proofs.Ids.{same_self, same_turned}
+use Rattle.escape_plan.proofs.Counting.{refer_at}
+use Rattle.az_base.proofs.Ids.{same_self}
 use Rattle.local_set.specs.Calls.{entry_of}
 use Rattle.escape_plan.specs.Together.{Together}
 use Rattle.escape_plan.proofs.Belonging.{part_is}
@@ -45,14 +45,14 @@ use Rattle.zone_escape.specs.Telling.{below, emptied, stands_at, refer_from, Let
 use Rattle.zone_escape.proofs.Told.{told_both}
 
 -- a part without registers and blocks holds nothing
-none_of : (p : Part) (q : BlockId) → ((r : ℕ) → p.registers r ≡ None) → ((a : BlockId) → get p.blocks a ≡ None) → outs p q ≡ 0
-none_of p q registers blocks = sym (holds_are_outs p q) ∙ unheld p q nothing
+none_of : (p : Part) (q : BlockId) → ((r : ℕ) → p.registers r ≡ None) → ((a : BlockId) → get p.blocks a ≡ None) → holds_of p q ≡ 0
+none_of p q registers blocks = unheld p q nothing
   where
     nothing : HoldsRef p q → ⊥
     nothing (inl r) = let no : None ≡ Some q = sym (registers r.0) ∙ r.1 in cc (no)
     nothing (inr e) = let no : None ≡ Some e.1.0 = sym (blocks e.0) ∙ e.1.2 in cc (no)
 
-pub none_out : (l : LocalSet) (q : BlockId) → outs (part_in (emptied l)) q ≡ 0
+pub none_out : (l : LocalSet) (q : BlockId) → holds_of (part_in (emptied l)) q ≡ 0
 none_out l q = none_of (part_in (emptied l)) q (λ r. refl) (λ a. get-empty id_cmp a)
 
 or_false : (b : Bool) → (b || false) ≡ b
@@ -91,7 +91,7 @@ no_register l q (suc n) h =
 
     none_at : (o : Option BlockId) → is_block q o ≡ false → one_if q o ≡ 0
     none_at None h = refl
-    none_at (Some b) h = ap (λ t. cond t 1 0) (same_turned q b ∙ h)
+    none_at (Some b) h = ap (λ t. cond t 1 0) h
 
 list_any_at : {X : Type 0} (f : X → Bool) (xs : List X) (k : ℕ) (x : X) → slice_get xs k ≡ Some x → f x ≡ true → list_any f xs ≡ true
 list_any_at f [] k x at h = cc
@@ -109,7 +109,7 @@ list_any_at f (y ∷ xs) (suc k) x at h = ap (λ b. f y || b) (list_any_at f xs 
 no_word : (l : LocalSet) (ids : List BlockId) (q : BlockId) → ((b : BlockId) → is_in (part_in l) b ≡ true → among ids b ≡ true) → refer_from l ids q ≡ false → word_holds (part_in l).blocks q ≡ 0
 no_word l ids q all none =
     let bare : Part = record (part_in l) { registers = λ r. None } in
-    let e : outs bare q ≡ 0 = sym (holds_are_outs bare q) ∙ unheld bare q nothing in
+    let e : holds_of bare q ≡ 0 = unheld bare q nothing in
     omega (arith, e)
   where
     nothing : HoldsRef (record (part_in l) { registers = λ r. None }) q → ⊥
@@ -206,17 +206,17 @@ module _ (l m : LocalSet) (h k : Shared) (gone : WithRoom) (can : CanMake l h ca
 
         nothing : l.thread ≡ u → holds_of (part_of (ended z) u) q ≡ 0
         nothing e =
-            ap (λ t. holds_of (part_of (ended z) t) q) (sym e) ∙ ap (λ p. holds_of p q) (last_part ∙ cleared) ∙ holds_are_outs (record (part_in l) { registers = λ r. None; blocks = empty; ended = true }) q
+            ap (λ t. holds_of (part_of (ended z) t) q) (sym e) ∙ ap (λ p. holds_of p q) (last_part ∙ cleared)
             ∙ none_of (record (part_in l) { registers = λ r. None; blocks = empty; ended = true }) q (λ r. refl) (λ a. get-empty id_cmp a)
 
-        own_hold : l.thread ≡ u → (b : Bool) → told.0 q ≡ b → cond (b && is_some (get h.blocks q)) (outs (part_in (emptied l)) q) (held h u q) ≡ 0
-        own_hold e true t = ap (λ b. cond b (outs (part_in (emptied l)) q) (held h u q)) there ∙ none_out l q
-        own_hold e false t = is.heap.holds u q was ∙ ap (λ t. holds_of (part_of z t) q) (sym e) ∙ ap (λ p. holds_of p q) (sym here) ∙ holds_are_outs (part_in l) q ∙ told.1 q t
+        own_hold : l.thread ≡ u → (b : Bool) → told.0 q ≡ b → cond (b && is_some (get h.blocks q)) (holds_of (part_in (emptied l)) q) (held h u q) ≡ 0
+        own_hold e true t = ap (λ b. cond b (holds_of (part_in (emptied l)) q) (held h u q)) there ∙ none_out l q
+        own_hold e false t = is.heap.holds u q was ∙ ap (λ t. holds_of (part_of z t) q) (sym e) ∙ ap (λ p. holds_of p q) (sym here) ∙ told.1 q t
 
         go : (s : Bool) → (l.thread == u) ≡ s → held k u q ≡ holds_of (part_of (ended z) u) q
-        go true e = told.2.held u q ∙ ap (λ b. cond (b && (told.0 q && is_some (get h.blocks q))) (outs (part_in (emptied l)) q) (held h u q)) e ∙ own_hold (same e) (told.0 q) refl ∙ sym (nothing (same e))
+        go true e = told.2.held u q ∙ ap (λ b. cond (b && (told.0 q && is_some (get h.blocks q))) (holds_of (part_in (emptied l)) q) (held h u q)) e ∙ own_hold (same e) (told.0 q) refl ∙ sym (nothing (same e))
         go false e =
-            told.2.held u q ∙ ap (λ b. cond (b && (told.0 q && is_some (get h.blocks q))) (outs (part_in (emptied l)) q) (held h u q)) e
+            told.2.held u q ∙ ap (λ b. cond (b && (told.0 q && is_some (get h.blocks q))) (holds_of (part_in (emptied l)) q) (held h u q)) e
             ∙ is.heap.holds u q was ∙ ap (λ p. holds_of p q) (sym (others_parts z is.heap.sound _ _ step u e))
 
     together : Together m k (ended z)

@@ -20,11 +20,10 @@ use Rattle.zone_model.proofs.Soundness.{step_sound}
 use Rattle.shared_heap.specs.Shared.{Shared, held}
 use Rattle.shared_heap.proofs.Stepping.{escaped_here}
 use Rattle.shared_heap.proofs.Unheld.{unheld}
-use Rattle.local_set.specs.Holds.{one_if, register_holds, word_holds, words_to, outs}
+use Rattle.zone_model.specs.Holds.{one_if, register_holds, word_holds, words_to, holds_of}
 use Rattle.local_set.specs.LocalSets.{LocalSet, part_in}
 use Rattle.local_set.proofs.Quantities.{holds_there, refers_there}
 use Rattle.escape_plan.specs.Together.{Belongs, IsHeapOf}
-use Rattle.escape_plan.proofs.Counting.{holds_are_outs}
 use Rattle.zone_escape.specs.Telling.{CanTellAll}
 
 escaped_alone : (o : Option Block) → is_some (option_and_then (λ (b : Block). b.since) o) ≡ is_some (escaped_only o)
@@ -65,7 +64,7 @@ in_register f q (suc n) r less is = go (split n r less) (λ before. in_register 
     go (inr last) rest = let one : one_if q (f n) ≡ 1 = ap (λ m. one_if q (f m)) (sym last) ∙ ap (one_if q) is ∙ ap (λ b. cond b 1 0) (same_self q) in omega (arith, one)
 
 -- what isn't counted isn't held
-none_held : (p : Part) (q : BlockId) → ((r : ℕ) → 16 ≤ r → p.registers r ≡ None) → outs p q ≡ 0 → HoldsRef p q → ⊥
+none_held : (p : Part) (q : BlockId) → ((r : ℕ) → 16 ≤ r → p.registers r ≡ None) → holds_of p q ≡ 0 → HoldsRef p q → ⊥
 none_held p q few none (inl held) = go (below 16 held.0)
   where
     below : (n r : ℕ) → (r < n) ⊎ (n ≤ r)
@@ -91,8 +90,7 @@ can_tell l h z b k sixteen q asked there = go (held h l.thread q) refl
     few : (r : ℕ) → 16 ≤ r → z.registers l.thread r ≡ None
     few r past = sym (b.published r) ∙ ap (λ o. option_and_then (λ x. x) o) (slice_get_past l.published r (omega (arith, sixteen, past)))
 
-    go : (n : ℕ) → held h l.thread q ≡ n → (0 < held h l.thread q) ⊎ (outs (part_in l) q ≡ 0)
+    go : (n : ℕ) → held h l.thread q ≡ n → (0 < held h l.thread q) ⊎ (holds_of (part_in l) q ≡ 0)
     go zero e = inr (
-        sym (holds_are_outs (part_in l) q)
-        ∙ unheld (part_in l) q (λ ref. none_held (part_of z l.thread) q few (sym (k.holds l.thread q out ∙ holds_are_outs (part_of z l.thread) q) ∙ e) (run_gains z k.sound l.thread l.waiting (part_in l) b.run q out ref)))
+        unheld (part_in l) q (λ ref. none_held (part_of z l.thread) q few (sym (k.holds l.thread q out) ∙ e) (run_gains z k.sound l.thread l.waiting (part_in l) b.run q out ref)))
     go (suc n) e = inl (omega (arith, e))

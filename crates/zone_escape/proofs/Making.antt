@@ -25,7 +25,7 @@ use Rattle.shared_heap.specs.Steps as shared
 use Rattle.shared_heap.proofs.Agreeing.{once_more}
 use Rattle.shared_heap.proofs.Leaving.{leaves_holds}
 use Rattle.local_set.specs.Calls.{entry_of}
-use Rattle.local_set.specs.Holds.{word_holds}
+use Rattle.zone_model.specs.Holds.{word_holds}
 use Rattle.local_set.specs.LocalSets.{LocalSet, part_in, held_in}
 use Rattle.escape_plan.specs.Together.{Belongs, Together}
 use Rattle.zone_escape.specs.Making.{CanMake, Makes, Stays}

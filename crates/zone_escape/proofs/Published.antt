@@ -5,7 +5,6 @@ use Rattle.std.specs.FinMap.{get}
 use Rattle.az_base.specs.declared.block_id.BlockId.{BlockId}
 use Rattle.az_base.specs.declared.options.Options.{Options}
 use Rattle.az_base.specs.Ids.{among}
-use Rattle.az_base.proofs.Ids.{same_turned}
 use Rattle.zone_model.specs.declared.entry.Entry.{Entry}
 use Rattle.zone_model.specs.History.{Ends}
 use Rattle.zone_model.specs.Part.{Part, part_of}
@@ -15,15 +14,14 @@ use Rattle.zone_model.proofs.Determined.{run_determined}
 use Rattle.zone_model.proofs.SoundLaws.{waiting_run}
 use Rattle.zone_model.proofs.Soundness.{ends_sound}
 use Rattle.zone_model.proofs.Waiting.{run_append}
-use Rattle.shared_heap.specs.Holding.{is_block, holds_of, HoldsAgree}
+use Rattle.zone_model.specs.Holds.{is_block, holds_of, one_if, register_holds, word_holds}
+use Rattle.shared_heap.specs.Holding.{HoldsAgree}
 use Rattle.shared_heap.specs.Shared.{Shared, held}
 use Rattle.shared_heap.proofs.Agreeing.{here_escaped}
 use Rattle.shared_heap.proofs.Alike.{stands_same}
-use Rattle.local_set.specs.Holds.{one_if, register_holds, word_holds, outs}
 use Rattle.local_set.specs.LocalSets.{LocalSet, part_in, held_in, blocks_of}
 use Rattle.escape_plan.specs.Moving.{Told}
 use Rattle.escape_plan.specs.Together.{Belongs, IsHeapOf, OthersStay}
-use Rattle.escape_plan.proofs.Counting.{holds_are_outs}
 use Rattle.zone_escape.specs.Cores.{CoreShown, IsCore, IsCoreOf, BelongsTo, steps_left, HasLists}
 use Rattle.zone_escape.specs.Publications.{Flushed}
 use Rattle.zone_escape.specs.Telling.{below, moved_of, moved_at, is_noted}
@@ -38,13 +36,9 @@ either_false : (a b : Bool) → (a || b) ≡ false → (a ≡ false) × (b ≡ f
 either_false true b h = cc
 either_false false b h = (refl, h)
 
-block_one : (q : BlockId) (o : Option BlockId) → cond (is_block q o) 1 0 ≡ one_if q o
-block_one q None = refl
-block_one q (Some b) = ap (λ t. cond t 1 0) (same_turned b q)
-
 -- a register that the block neither came into nor left counts it as before
 still_counted : (q : BlockId) (before now : Option BlockId) → moved_of q before now ≡ false → one_if q before ≡ one_if q now
-still_counted q before now h = sym (block_one q before) ∙ go (is_block q before) (is_block q now) refl refl ∙ block_one q now
+still_counted q before now h = go (is_block q before) (is_block q now) refl refl
   where
     go : (s t : Bool) → is_block q before ≡ s → is_block q now ≡ t → cond {A = ℕ} (is_block q before) 1 0 ≡ cond (is_block q now) 1 0
     go true true e f = ap (λ b. cond {A = ℕ} b 1 0) (e ∙ sym f)
@@ -62,7 +56,7 @@ registers_still l f q (suc n) same h =
     omega (arith, rest, one)
 
 -- what isn't noted the thread holds as often as in the state
-not_noted : (l : LocalSet) (z : State) (q : BlockId) → Belongs l z → is_noted l q ≡ false → outs (part_of z l.thread) q ≡ outs (part_in l) q
+not_noted : (l : LocalSet) (z : State) (q : BlockId) → Belongs l z → is_noted l q ≡ false → holds_of (part_of z l.thread) q ≡ holds_of (part_in l) q
 not_noted l z q b h =
     let e = either_false (below (moved_at l) 16 q) (among l.changed q) h in
     let registers : register_holds (z.registers l.thread) q 16 ≡ register_holds (held_in l.registers) q 16 = registers_still l (z.registers l.thread) q 16 b.published e.0 in
@@ -79,19 +73,19 @@ told_agrees l h k z a b is told part others shared u q out = go (l.thread == u) 
     here : is_some (get h.blocks q) ≡ true
     here = here_escaped h z q is.stands was
 
-    own : (u : ℕ) → l.thread ≡ u → (n : Bool) → is_noted l q ≡ n → cond (n && is_some (get h.blocks q)) (outs (part_in l) q) (held h u q) ≡ holds_of (part_of a u) q
-    own u e true m = ap (λ b. cond b (outs (part_in l) q) (held h u q)) here ∙ sym (ap (λ t. holds_of (part_of a t) q) (sym e) ∙ ap (λ p. holds_of p q) part ∙ holds_are_outs (part_in l) q)
+    own : (u : ℕ) → l.thread ≡ u → (n : Bool) → is_noted l q ≡ n → cond (n && is_some (get h.blocks q)) (holds_of (part_in l) q) (held h u q) ≡ holds_of (part_of a u) q
+    own u e true m = ap (λ b. cond b (holds_of (part_in l) q) (held h u q)) here ∙ sym (ap (λ t. holds_of (part_of a t) q) (sym e) ∙ ap (λ p. holds_of p q) part)
     own u e false m =
-        is.holds u q was ∙ ap (λ t. holds_of (part_of z t) q) (sym e) ∙ holds_are_outs (part_of z l.thread) q ∙ not_noted l z q b m
-        ∙ sym (ap (λ t. holds_of (part_of a t) q) (sym e) ∙ ap (λ p. holds_of p q) part ∙ holds_are_outs (part_in l) q)
+        is.holds u q was ∙ ap (λ t. holds_of (part_of z t) q) (sym e) ∙ not_noted l z q b m
+        ∙ sym (ap (λ t. holds_of (part_of a t) q) (sym e) ∙ ap (λ p. holds_of p q) part)
 
     same : (l.thread == u) ≡ true → l.thread ≡ u
     same e = grind (arith, nat_tests)
 
     go : (s : Bool) → (l.thread == u) ≡ s → held k u q ≡ holds_of (part_of a u) q
-    go true e = told.held u q ∙ ap (λ b. cond (b && (is_noted l q && is_some (get h.blocks q))) (outs (part_in l) q) (held h u q)) e ∙ own u (same e) (is_noted l q) refl
+    go true e = told.held u q ∙ ap (λ b. cond (b && (is_noted l q && is_some (get h.blocks q))) (holds_of (part_in l) q) (held h u q)) e ∙ own u (same e) (is_noted l q) refl
     go false e =
-        told.held u q ∙ ap (λ b. cond (b && (is_noted l q && is_some (get h.blocks q))) (outs (part_in l) q) (held h u q)) e
+        told.held u q ∙ ap (λ b. cond (b && (is_noted l q && is_some (get h.blocks q))) (holds_of (part_in l) q) (held h u q)) e
         ∙ is.holds u q was ∙ ap (λ p. holds_of p q) (sym (others u e))
 
 -- the core after the waiting entries went into the journal, and the heap was told

@@ -8,14 +8,13 @@ use Rattle.zone_model.specs.declared.entry.Reply.{Reply}
 use Rattle.zone_model.specs.declared.entry.Reply.TheVariants as reply
 use Rattle.zone_model.specs.Part.{Part, part_of, put_register}
 use Rattle.zone_model.specs.State.{State, is_escaped}
-use Rattle.shared_heap.specs.Holding.{holds_of, HoldsAgree, HoldsOnceMore, HoldsSet, replaced}
+use Rattle.zone_model.specs.Holds.{holds_of}
+use Rattle.shared_heap.specs.Holding.{HoldsAgree, HoldsOnceMore, HoldsSet, replaced}
 use Rattle.shared_heap.specs.Shared.{Shared, held}
 use Rattle.shared_heap.specs.Stands.{Stands}
 use Rattle.shared_heap.proofs.Agreeing.{said, one_pair, no_pair}
-use Rattle.local_set.specs.Holds.{outs}
 use Rattle.local_set.specs.LocalSets.{LocalSet, part_in, held_in}
 use Rattle.escape_plan.specs.Together.{Together}
-use Rattle.escape_plan.proofs.Counting.{holds_are_outs}
 use Rattle.zone_escape.specs.Receiving.{received, Receives, CountsOnceMore}
 use Rattle.zone_escape.proofs.Making.{belongs_now}
 
@@ -43,9 +42,9 @@ is_counted l h id z t thread c out =
     subst (λ u. 0 < held h u id) (sym thread) (omega (arith, one))
 
 -- and once its number was said, all agrees
-pub told_agrees : (l : LocalSet) (h k : Shared) (id : BlockId) (z : State) (t n : ℕ) → t ≡ l.thread → n ≡ outs (part_in l) id → HoldsSet h k t id n → CountsOnceMore l h (Some id) z → HoldsAgree k z
+pub told_agrees : (l : LocalSet) (h k : Shared) (id : BlockId) (z : State) (t n : ℕ) → t ≡ l.thread → n ≡ holds_of (part_in l) id → HoldsSet h k t id n → CountsOnceMore l h (Some id) z → HoldsAgree k z
 told_agrees l h k id z t n thread is sets c =
-    let number : n ≡ holds_of (part_of z l.thread) id = is ∙ sym (holds_are_outs (part_in l) id) ∙ ap (λ p. holds_of p id) c.part in
+    let number : n ≡ holds_of (part_of z l.thread) id = is ∙ ap (λ p. holds_of p id) c.part in
     no_pair k z (said h k z l.thread id [] (one_pair h z l.thread (Some id) c.holds) (subst (λ x. HoldsSet h k l.thread id x) number (subst (λ u. HoldsSet h k u id n) thread sets)))
 
 -- a reply that gives no block goes to no register

@@ -30,7 +30,7 @@ use Rattle.shared_heap.specs.Steps as shared
 use Rattle.shared_heap.proofs.Agreeing.{here_escaped}
 use Rattle.shared_heap.proofs.Leaving.{leaves_holds}
 use Rattle.local_set.specs.Calls.{entry_of}
-use Rattle.local_set.specs.Holds.{word_holds}
+use Rattle.zone_model.specs.Holds.{word_holds}
 use Rattle.local_set.specs.LocalSets.{LocalSet, part_in}
 use Rattle.escape_plan.specs.Escapes.{IsKnown}
 use Rattle.escape_plan.specs.Together.{Belongs, Together}

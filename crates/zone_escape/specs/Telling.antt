@@ -3,9 +3,8 @@ use Rattle.std.specs.Prelude.{◌≡◌, ◌||◌, ℕ, zero, suc, Bool, true, f
 use Rattle.std.specs.List.{list_any}
 use Rattle.az_base.specs.declared.block_id.BlockId.{BlockId}
 use Rattle.az_base.specs.Ids.{among}
-use Rattle.shared_heap.specs.Holding.{is_block}
+use Rattle.zone_model.specs.Holds.{is_block, holds_of}
 use Rattle.shared_heap.specs.Shared.{Shared}
-use Rattle.local_set.specs.Holds.{outs}
 use Rattle.local_set.specs.LocalSets.{LocalSet, part_in, held_in}
 use Rattle.local_set.specs.Walks.{words_at}
 use Rattle.escape_plan.specs.Moving.{Told, CanTell, refer_to}
@@ -45,4 +44,4 @@ refer_from l ids q = list_any (λ id. refer_to (words_at (part_in l).blocks id) 
 
 -- the heap was told of each of its blocks that the thread holds that it no longer does, and nothing that is wrong of others
 abbrev pub LetsGo : LocalSet → Shared → Shared → Type 0
-LetsGo l old new = (test : BlockId → Bool) × ((q : BlockId) → test q ≡ false → outs (part_in l) q ≡ 0) × Told (emptied l) old new test
+LetsGo l old new = (test : BlockId → Bool) × ((q : BlockId) → test q ≡ false → holds_of (part_in l) q ≡ 0) × Told (emptied l) old new test

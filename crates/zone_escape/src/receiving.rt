@@ -44,7 +44,7 @@ fn drop_hold(local: &Local, heap: &mut Heap, before: Option<BlockId>)
     if !heap.has(*id) {
         return;
     }
-    let Ok(()) = heap.hold_count(local.thread(), *id, local.outs(*id)) else {
+    let Ok(()) = heap.hold_count(local.thread(), *id, local.holds_of(*id)) else {
         unreachable!()
     };
 }

@@ -1,7 +1,7 @@
 //! The heap is told how often a thread holds its blocks.
 ghost use Rattle.std.specs.Prelude.{◌≡◌, length};
 ghost use Rattle.az_base.specs.Ids.{same_id, among};
-ghost use Rattle.shared_heap.specs.Holding.{is_block};
+ghost use Rattle.zone_model.specs.Holds.{is_block};
 ghost use Rattle.zone_model.specs.State.{State};
 ghost use Rattle.escape_plan.specs.Moving.{Told, CanTell};
 ghost use Rattle.escape_plan.specs.Together.{Belongs, IsHeapOf};
@@ -20,7 +20,7 @@ fn tell_block(local: &Local, heap: &mut Heap, id: BlockId)
     if !heap.has(*id) {
         return;
     }
-    let holds = local.outs(*id);
+    let holds = local.holds_of(*id);
     let Ok(()) = heap.hold_count(local.thread(), *id, holds) else {
         unreachable!()
     };

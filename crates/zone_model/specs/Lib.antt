@@ -11,6 +11,7 @@ pub mod Effect
 pub mod Step
 pub mod History
 pub mod Part
+pub mod Holds
 pub mod LocalSteps
 pub mod SameShared
 pub mod Waits

@@ -57,5 +57,5 @@ returns c =
       cycle = ap (λ (s : Shared). option_map unshaded s.gc.cycle) c.in-Ok.ensures.ok ∙ c.admit.ensures.gc.cycle ∙ ap (λ (s : Shared). option_map unshaded s.gc.cycle) c.tell_words.ensures.rest;
       agree = λ z a. agree_after l h z id _ _ a own taken.block m told in_it k (ap (λ (s : LocalSet). s.thread) taken.rest) taken.part
           (subst (λ (ws : List Word). Told m h told (refer_to ws)) c.deref.ensures.value c.tell_words.ensures) c.admit.ensures.held
-          (subst (λ n. HoldsSet in_it k m.thread id n) c.outs.ensures (subst (λ t. HoldsSet in_it k t id c.outs.result) c.thread.ensures c.in-Ok.ensures.held)) c.admit.ensures.stands c.in-Ok.ensures.stands;
+          (subst (λ n. HoldsSet in_it k m.thread id n) c.holds_of.ensures (subst (λ t. HoldsSet in_it k t id c.holds_of.result) c.thread.ensures c.in-Ok.ensures.held)) c.admit.ensures.stands c.in-Ok.ensures.stands;
     }

@@ -1,6 +1,7 @@
 use Rattle.std.proofs.Common.{◌≡◌, ◌∙◌, ◌≤◌, sym, arith}
 use Rattle.std.proofs.lemmas.Bool.{ltb-false}
-use Rattle.local_set.specs.Holds.{references_in, words_to}
+use Rattle.zone_model.specs.Holds.{words_to}
+use Rattle.local_set.specs.WordReferences.{references_in}
 use Rattle.local_set.proofs.Quantities.{no_references}
 use Rattle.local_set.proofs.blocks.forget_words.Goals as goal
 

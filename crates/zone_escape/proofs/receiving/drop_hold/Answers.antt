@@ -11,4 +11,4 @@ returns-then-not-has-clause-agree c = λ z k.
 pub returns-clause-agree : goal.returns-clause-agree
 returns-clause-agree c = λ z k.
     let h = c.args.heap.now in
-    told_agrees c.args.local.now h c.hold_count.new.self c.in-Some.id z _ _ c.thread.ensures c.outs.ensures c.in-Ok.ensures.held (subst (λ o. CountsOnceMore c.args.local.now h o z) c.in-Some.is k)
+    told_agrees c.args.local.now h c.hold_count.new.self c.in-Some.id z _ _ c.thread.ensures c.holds_of.ensures c.in-Ok.ensures.held (subst (λ o. CountsOnceMore c.args.local.now h o z) c.in-Some.is k)

@@ -1,7 +1,7 @@
 use Rattle.std.proofs.Common.{◌≡◌, ◌∙◌, false, true, sym, ap}
 use Rattle.std.specs.Option.{option_eq}
 use Rattle.az_base.specs.Ids.{id_eq}
-use Rattle.shared_heap.specs.Holding.{is_block}
+use Rattle.zone_model.specs.Holds.{is_block}
 use Rattle.local_set.specs.LocalSets.{held_in}
 use Rattle.zone_escape.specs.Telling.{moved_of}
 use Rattle.zone_escape.proofs.Told.{told_as, told_both, moved, itself_eq}

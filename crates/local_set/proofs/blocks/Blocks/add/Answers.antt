@@ -3,7 +3,7 @@ use Rattle.std.specs.FinMap.{insert}
 use Rattle.block_layouts.specs.Layouts.{len_of, quanta}
 use Rattle.zone_model.specs.Part.{own_block}
 use Rattle.local_set.specs.LocalSets.{blocks_of}
-use Rattle.local_set.specs.Holds.{word_holds}
+use Rattle.zone_model.specs.Holds.{word_holds}
 use Rattle.local_set.proofs.Tables.{inserted}
 use Rattle.local_set.proofs.Quantities.{quanta_in, quanta_added, holds_born}
 use Rattle.local_set.proofs.blocks.Blocks.add.Goals as goal

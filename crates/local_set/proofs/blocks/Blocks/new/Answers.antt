@@ -3,7 +3,7 @@ use Rattle.az_base.specs.Ids.{id_cmp}
 use Rattle.zone_model.proofs.MapLaws.{total-empty}
 use Rattle.retain_table.specs.Counted.{count_of}
 use Rattle.local_set.specs.LocalSets.{blocks_of}
-use Rattle.local_set.specs.Holds.{word_holds}
+use Rattle.zone_model.specs.Holds.{word_holds}
 use Rattle.local_set.proofs.Quantities.{quanta_in}
 use Rattle.local_set.proofs.Counting.{none_counted}
 use Rattle.local_set.proofs.blocks.Blocks.new.Goals as goal

@@ -1,7 +1,7 @@
 use Rattle.std.proofs.Common.{ap, sym, ◌∙◌, slice_set, refl}
 use Rattle.az_base.specs.declared.word.Word.TheVariants as word
 use Rattle.local_set.specs.LocalSets.{blocks_of}
-use Rattle.local_set.specs.Holds.{word_holds}
+use Rattle.zone_model.specs.Holds.{word_holds}
 use Rattle.local_set.proofs.Quantities.{quanta_in, quanta_edited}
 use Rattle.local_set.proofs.Editing.{number_holds}
 use Rattle.local_set.proofs.blocks.Blocks.put.Goals as goal

@@ -3,7 +3,7 @@ use Rattle.az_base.specs.Ids.{among}
 use Rattle.az_base.specs.declared.word.Word.{Word}
 use Rattle.zone_model.specs.State.{referent}
 use Rattle.local_set.specs.LocalSets.{blocks_of}
-use Rattle.local_set.specs.Holds.{one_if, word_holds}
+use Rattle.zone_model.specs.Holds.{one_if, word_holds}
 use Rattle.local_set.specs.Counting.{count_in, list_of}
 use Rattle.local_set.proofs.Lists.{among_before, among_neither}
 use Rattle.local_set.proofs.Counting.{counted_from}

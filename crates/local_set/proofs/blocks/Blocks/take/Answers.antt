@@ -4,7 +4,7 @@ use Rattle.az_base.specs.Ids.{same_id}
 use Rattle.block_layouts.specs.declared.layout.Layout.{Layout}
 use Rattle.block_layouts.specs.Layouts.{len_of, quanta}
 use Rattle.local_set.specs.LocalSets.{blocks_of}
-use Rattle.local_set.specs.Holds.{words_to, word_holds}
+use Rattle.zone_model.specs.Holds.{words_to, word_holds}
 use Rattle.local_set.specs.Counting.{count_in}
 use Rattle.local_set.proofs.Tables.{missing, there_is, removed}
 use Rattle.local_set.proofs.Quantities.{quanta_in, quanta_removed, holds_removed, holds_there}

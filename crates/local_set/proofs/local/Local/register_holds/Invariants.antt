@@ -1,6 +1,6 @@
 use Rattle.std.proofs.Common.{◌≡◌, ◌≤◌}
 use Rattle.local_set.specs.LocalSets.{held_in}
-use Rattle.local_set.specs.Holds.{register_holds}
+use Rattle.zone_model.specs.Holds.{register_holds}
 use Rattle.local_set.proofs.local.Local.register_holds.Given as goal
 
 abbrev pub invariant-loop-at : goal.invariant-loop-at

@@ -2,7 +2,7 @@ use Rattle.std.proofs.Common.{◌≡◌, ap, not, sym, ◌∙◌, arith}
 use Rattle.std.specs.FinMap.{get, contains_key, retain_keys}
 use Rattle.az_base.specs.Ids.{id_of, among}
 use Rattle.local_set.specs.LocalSets.{blocks_of}
-use Rattle.local_set.specs.Holds.{word_holds}
+use Rattle.zone_model.specs.Holds.{word_holds}
 use Rattle.local_set.proofs.Tables.{left_absent}
 use Rattle.local_set.proofs.Quantities.{quanta_in}
 use Rattle.local_set.proofs.Sorting.{listed_distinct}

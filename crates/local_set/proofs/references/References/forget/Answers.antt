@@ -1,7 +1,7 @@
 use Rattle.std.proofs.Common.{◌≡◌, ◌+◌, ◌≤◌, ap, length, Some, refl, ◌∙◌, arith, drop}
 use Rattle.std.proofs.lemmas.Option.{slice_get_read}
 use Rattle.zone_model.specs.State.{referent}
-use Rattle.local_set.specs.Holds.{one_if, words_to}
+use Rattle.zone_model.specs.Holds.{one_if, words_to}
 use Rattle.local_set.specs.Counting.{count_in}
 use Rattle.local_set.proofs.Lists.{next_left, none_left}
 use Rattle.local_set.proofs.Counting.{is_counted}

@@ -1,6 +1,6 @@
 use Rattle.std.proofs.Common.{◌≡◌, ◌+◌, drop}
 use Rattle.az_base.specs.declared.block_id.BlockId.{BlockId}
-use Rattle.local_set.specs.Holds.{words_to}
+use Rattle.zone_model.specs.Holds.{words_to}
 use Rattle.local_set.specs.Counting.{count_in, IsBounded}
 use Rattle.local_set.proofs.references.References.forget.Given as goal
 

@@ -1,6 +1,6 @@
 use Rattle.std.proofs.Common.{Some, ap, ◌+◌, ◌∙◌, arith}
 use Rattle.retain_table.specs.Counted.{count_of}
-use Rattle.local_set.specs.Holds.{one_if}
+use Rattle.zone_model.specs.Holds.{one_if}
 use Rattle.local_set.proofs.Counting.{count_fallen, count_bounded}
 use Rattle.local_set.proofs.references.References.lower.Goals as goal
 

@@ -1,6 +1,6 @@
 use Rattle.std.proofs.Common.{◌∙◌, sym, ap}
 use Rattle.block_layouts.proofs.Fitting.{first_fits}
-use Rattle.local_set.specs.Holds.{references_in}
+use Rattle.local_set.specs.WordReferences.{references_in}
 use Rattle.local_set.proofs.Quantities.{first_references}
 use Rattle.local_set.proofs.stored.OwnBlock.new.Goals as goal
 

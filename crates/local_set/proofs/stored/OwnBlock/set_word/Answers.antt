@@ -1,7 +1,7 @@
 use Rattle.std.proofs.Common.{◌≡◌, ◌∙◌, ◌+◌, ◌≤◌, [], ◌∷◌, Some, length, slice_get, slice_set, ap, sym, subst, arith}
 use Rattle.block_layouts.specs.Fitting.{FitsAt}
 use Rattle.block_layouts.proofs.Fitting.{set_fits}
-use Rattle.local_set.specs.Holds.{references_in}
+use Rattle.local_set.specs.WordReferences.{references_in}
 use Rattle.local_set.proofs.Quantities.{references_set, references_there, references_within}
 use Rattle.local_set.proofs.Editing.{stood_there}
 use Rattle.local_set.proofs.stored.OwnBlock.set_word.Goals as goal

@@ -1,6 +1,5 @@
--- How often a part holds a block
-use Rattle.std.specs.Prelude.{ℕ, ◌+◌, zero, suc, false, if◌then◌else◌, List, [], ◌∷◌, Option, Some, None}
-use Rattle.std.specs.Option.{option_map_or}
+-- How often a thread's part holds a block
+use Rattle.std.specs.Prelude.{ℕ, ◌+◌, zero, suc, Bool, false, if◌then◌else◌, List, [], ◌∷◌, Option, Some, None}
 use Rattle.std.specs.FinMap.{FinMap}
 use Rattle.az_base.specs.declared.block_id.BlockId.{BlockId}
 use Rattle.az_base.specs.declared.word.Word.{Word}
@@ -9,24 +8,19 @@ use Rattle.zone_model.specs.Maps.{total}
 use Rattle.zone_model.specs.State.{Block, referent}
 use Rattle.zone_model.specs.Part.{Part}
 
+-- this is the block
+abbrev pub is_block : BlockId → Option BlockId → Bool
+is_block q (Some b) = same_id b q
+is_block q None = false
+
 -- 1 where it is this block, and else 0
 abbrev pub one_if : BlockId → Option BlockId → ℕ
-one_if q held = if option_map_or (same_id q) held false then 1 else 0
+one_if q held = if is_block q held then 1 else 0
 
 -- how many of the words refer to the block
 abbrev pub words_to : BlockId → List Word → ℕ
 words_to q [] = 0
 words_to q (w ∷ ws) = one_if q (referent (Some w)) + words_to q ws
-
--- 1 where it is a block, and else 0
-abbrev pub one_if_some : Option BlockId → ℕ
-one_if_some None = 0
-one_if_some (Some b) = 1
-
--- how many of the words refer to a block
-abbrev pub references_in : List Word → ℕ
-references_in [] = 0
-references_in (w ∷ ws) = one_if_some (referent (Some w)) + references_in ws
 
 -- in how many words of the blocks it stands
 abbrev pub word_holds : FinMap id_cmp Block → BlockId → ℕ
@@ -37,6 +31,6 @@ abbrev pub register_holds : (ℕ → Option BlockId) → BlockId → ℕ → ℕ
 register_holds registers q zero = 0
 register_holds registers q (suc n) = register_holds registers q n + one_if q (registers n)
 
--- in how many registers and words of the part it stands
-abbrev pub outs : Part → BlockId → ℕ
-outs p q = register_holds p.registers q 16 + word_holds p.blocks q
+-- in how many of its sixteen registers, and words of its unescaped blocks, the part holds the block
+abbrev pub holds_of : Part → BlockId → ℕ
+holds_of p q = register_holds p.registers q 16 + word_holds p.blocks q
