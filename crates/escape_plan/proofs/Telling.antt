@@ -48,15 +48,22 @@ told_none l h = record { held = λ u q. go (l.thread == u) (holds_of (part_in l)
     go true x y = refl
     go false x y = refl
 
--- one word more
-pub told_more : (l : LocalSet) (h mid k : Shared) (ws : List Word) (i : ℕ) (w : Word) → slice_get ws i ≡ Some w → Told l h mid (refer_to (take i ws)) → Told l mid k (λ q. refers_to q w) → Told l h k (refer_to (take (i + 1) ws))
-told_more l h mid k ws i w at first then = record {
+-- the same by another test that says the same
+pub told_as : (l : LocalSet) (h k : Shared) (f g : BlockId → Bool) → ((q : BlockId) → f q ≡ g q) → Told l h k f → Told l h k g
+told_as l h k f g same told = record {
+  held = λ u q. told.held u q ∙ ap (λ b. cond ((l.thread == u) && (b && is_some (get h.blocks q))) (holds_of (part_in l) q) (held h u q)) (same q);
+  rest = told.rest;
+  stands = told.stands;
+}
+
+-- one after the other
+pub told_both : (l : LocalSet) (h mid k : Shared) (f g : BlockId → Bool) → Told l h mid f → Told l mid k g → Told l h k (λ q. f q || g q)
+told_both l h mid k f g first then = record {
   held = λ u q.
       then.held u q
-      ∙ ap (λ (s : Shared). cond ((l.thread == u) && (refers_to q w && is_some (get s.blocks q))) (holds_of (part_in l) q) (held mid u q)) first.rest
-      ∙ ap (cond ((l.thread == u) && (refers_to q w && is_some (get h.blocks q))) (holds_of (part_in l) q)) (first.held u q)
-      ∙ both (l.thread == u) (refer_to (take i ws) q) (refers_to q w) (is_some (get h.blocks q)) (holds_of (part_in l) q) (held h u q)
-      ∙ ap (λ b. cond ((l.thread == u) && (b && is_some (get h.blocks q))) (holds_of (part_in l) q) (held h u q)) (sym (refer_more (take i ws) w q) ∙ ap (λ l. refer_to l q) (next_taken ws i w at));
+      ∙ ap (λ (s : Shared). cond ((l.thread == u) && (g q && is_some (get s.blocks q))) (holds_of (part_in l) q) (held mid u q)) first.rest
+      ∙ ap (cond ((l.thread == u) && (g q && is_some (get h.blocks q))) (holds_of (part_in l) q)) (first.held u q)
+      ∙ both (l.thread == u) (f q) (g q) (is_some (get h.blocks q)) (holds_of (part_in l) q) (held h u q);
   rest = then.rest ∙ ap (λ (s : Shared). record s { holds = k.holds }) first.rest;
   stands = λ z s. then.stands z (first.stands z s);
 }
@@ -68,9 +75,9 @@ told_more l h mid k ws i w at first then = record {
     both true true false e x y = refl
     both true false s e x y = refl
 
--- the next word can be told
-pub can_next : (l : LocalSet) (h mid : Shared) (ws : List Word) (i : ℕ) (w : Word) → slice_get ws i ≡ Some w → CanTell l h (refer_to ws) → Told l h mid (refer_to (take i ws)) → CanTell l mid (λ q. refers_to q w)
-can_next l h mid ws i w at can first q refers there = go (can q (refer_at ws i w q at refers) was) (refer_to (take i ws) q) refl
+-- what can be told can be told after something else was
+pub can_still : (l : LocalSet) (h mid : Shared) (f g : BlockId → Bool) → CanTell l h g → Told l h mid f → CanTell l mid g
+can_still l h mid f g can first q asked there = go (can q asked was) (f q) refl
   where
     was : is_some (get h.blocks q) ≡ true
     was = ap (λ (s : Shared). is_some (get s.blocks q)) (sym first.rest) ∙ there
@@ -78,9 +85,9 @@ can_next l h mid ws i w at can first q refers there = go (can q (refer_at ws i w
     same : (l.thread == l.thread) ≡ true
     same = grind (arith, nat_tests)
 
-    now : (b : Bool) → refer_to (take i ws) q ≡ b → held mid l.thread q ≡ cond b (holds_of (part_in l) q) (held h l.thread q)
+    now : (b : Bool) → f q ≡ b → held mid l.thread q ≡ cond b (holds_of (part_in l) q) (held h l.thread q)
     now b e =
-        first.held l.thread q ∙ ap (λ x. cond (x && (refer_to (take i ws) q && is_some (get h.blocks q))) (holds_of (part_in l) q) (held h l.thread q)) same
+        first.held l.thread q ∙ ap (λ x. cond (x && (f q && is_some (get h.blocks q))) (holds_of (part_in l) q) (held h l.thread q)) same
         ∙ ap (λ x. cond (x && is_some (get h.blocks q)) (holds_of (part_in l) q) (held h l.thread q)) e ∙ ap (λ x. cond (b && x) (holds_of (part_in l) q) (held h l.thread q)) was ∙ plain b
       where
         plain : (b : Bool) → cond (b && true) (holds_of (part_in l) q) (held h l.thread q) ≡ cond b (holds_of (part_in l) q) (held h l.thread q)
@@ -91,7 +98,17 @@ can_next l h mid ws i w at can first q refers there = go (can q (refer_at ws i w
     some_or_none zero = inr refl
     some_or_none (suc n) = inl (omega arith)
 
-    go : (0 < held h l.thread q) ⊎ (holds_of (part_in l) q ≡ 0) → (b : Bool) → refer_to (take i ws) q ≡ b → (0 < held mid l.thread q) ⊎ (holds_of (part_in l) q ≡ 0)
+    go : (0 < held h l.thread q) ⊎ (holds_of (part_in l) q ≡ 0) → (b : Bool) → f q ≡ b → (0 < held mid l.thread q) ⊎ (holds_of (part_in l) q ≡ 0)
     go (inr none) b e = inr none
     go (inl some) true e = elim (some_or_none (holds_of (part_in l) q)) [ inl k ↦ inl (subst (λ n. 0 < n) (sym (now true e)) k) | inr k ↦ inr k ]
     go (inl some) false e = inl (subst (λ n. 0 < n) (sym (now false e)) some)
+
+-- one word more
+pub told_more : (l : LocalSet) (h mid k : Shared) (ws : List Word) (i : ℕ) (w : Word) → slice_get ws i ≡ Some w → Told l h mid (refer_to (take i ws)) → Told l mid k (λ q. refers_to q w) → Told l h k (refer_to (take (i + 1) ws))
+told_more l h mid k ws i w at first then =
+    told_as l h k (λ q. refer_to (take i ws) q || refers_to q w) (refer_to (take (i + 1) ws)) (λ q. sym (refer_more (take i ws) w q) ∙ ap (λ l. refer_to l q) (next_taken ws i w at))
+        (told_both l h mid k (refer_to (take i ws)) (λ q. refers_to q w) first then)
+
+-- the next word can be told
+pub can_next : (l : LocalSet) (h mid : Shared) (ws : List Word) (i : ℕ) (w : Word) → slice_get ws i ≡ Some w → CanTell l h (refer_to ws) → Told l h mid (refer_to (take i ws)) → CanTell l mid (λ q. refers_to q w)
+can_next l h mid ws i w at can first = can_still l h mid (refer_to (take i ws)) (λ q. refers_to q w) (λ q refers. can q (refer_at ws i w q at refers)) first

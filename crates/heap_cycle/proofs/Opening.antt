@@ -94,19 +94,19 @@ some_same x y e = cc
 
 -- a cycle that has opened over the tables
 module _ (old new : Tables) (mode : Mode) (o : OpenCycle) (keeps : KeepsCards old) (old_cards : OldCards old None) (is : IsOpened old new mode o) where
-  new_cards : KeepsCards new
+  pub new_cards : KeepsCards new
   new_cards = cards_unshaded (at_begin old) new is.tables (cards_begun old keeps)
 
-  all_began : new.blocks.began ≡ length new.blocks.order
+  pub all_began : new.blocks.began ≡ length new.blocks.order
   all_began = ap (λ (t : Tables). t.blocks.began) is.tables ∙ sym (ap (λ (t : Tables). length t.blocks.order) is.tables)
 
-  cards_same : new.cards.list ≡ old.cards.list
+  pub cards_same : new.cards.list ≡ old.cards.list
   cards_same = ap (λ (t : Tables). t.cards.list) is.tables
 
-  blocks_same : new.blocks.blocks ≡ old.blocks.blocks
+  pub blocks_same : new.blocks.blocks ≡ old.blocks.blocks
   blocks_same = ap (λ (t : Tables). t.blocks.blocks) is.tables
 
-  still_old : (a : BlockId) → IsTrue (among new.cards.list a) → IsTrue (is_old_at new.blocks.blocks a)
+  pub still_old : (a : BlockId) → IsTrue (among new.cards.list a) → IsTrue (is_old_at new.blocks.blocks a)
   still_old a i = ap (λ m. is_old_at m a) blocks_same ∙ old_cards refl a (sym (ap (λ l. among l a) cards_same) ∙ i)
 
   -- the tables keep what they have to with it

@@ -29,6 +29,7 @@ use Rattle.play_order.specs.Play.{IsPlayOf, leaves, threads_of}
 use Rattle.play_order.specs.Playing.{Seen, SoFar}
 use Rattle.play_order.proofs.Playing.{so_far_none, so_far_all}
 use Rattle.play_order.proofs.Rooms.{history_alike, play_alike}
+use Rattle.play_order.proofs.Whole.{stands_in}
 use Rattle.play_core.specs.Opening.{opening_seen}
 use Rattle.play_core.specs.Playing.{requests, CanPlay, Turns, ends_of}
 use Rattle.play_core.specs.Worlds.{WorldShown, AtEnd, IsQuiet, CyclesStay, threads_in, seen, is_running, Steps, IsBelow, Ascending}
@@ -97,20 +98,6 @@ ascending_range a (suc n) = (below_range a (a + 1) n (omega arith), ascending_ra
 -- they ascend
 pub threads_ascend : (rs : List Request) → Ascending (threads_of rs)
 threads_ascend rs = ascending_filter (is_asked rs) (range_with_len 1 16) (ascending_range 1 16)
-
-stands_in : (t a n : ℕ) → a ≤ t → t < a + n → list_any (λ u. u == t) (range_with_len a n) ≡ true
-stands_in t a zero low high = absurd (omega (arith, low, high))
-stands_in t a (suc n) low high = by (a == t) refl (stands_in t (a + 1) n)
-  where
-    by : (b : Bool) → (a == t) ≡ b → (a + 1 ≤ t → t < (a + 1) + n → list_any (λ u. u == t) (range_with_len (a + 1) n) ≡ true) → ((a == t) || list_any (λ u. u == t) (range_with_len (a + 1) n)) ≡ true
-    by true e rest = rw (e) refl
-    by false e rest = let other = eqb-false a t e in rw (e) (rest (past a t low other) (omega (arith, high)))
-      where
-        past : (a t : ℕ) → a ≤ t → (a ≡ t → ⊥) → a + 1 ≤ t
-        past a t low other = elim (eq-or-lt_of_le low) [
-          | inl same ↦ absurd (other same)
-          | inr less ↦ omega (arith, less)
-        ]
 
 any_filter : (p : ℕ → Bool) (t : ℕ) (ts : List ℕ) → p t ≡ true → list_any (λ u. u == t) ts ≡ true → list_any (λ u. u == t) (filter p ts) ≡ true
 any_filter p t [] has h = h

@@ -22,7 +22,7 @@ use Rattle.zone_model.proofs.Alone.{runs_once}
 use Rattle.play_order.proofs.Once.{NoCondemns, order_once}
 
 -- a number of a range stands in its list
-stands_in : (t a n : ℕ) → a ≤ t → t < a + n → list_any (λ u. u == t) (range_with_len a n) ≡ true
+pub stands_in : (t a n : ℕ) → a ≤ t → t < a + n → list_any (λ u. u == t) (range_with_len a n) ≡ true
 stands_in t a zero low high = absurd (omega (arith, low, high))
 stands_in t a (suc n) low high = by (a == t) refl (stands_in t (a + 1) n)
   where

@@ -35,7 +35,7 @@ use Rattle.shared_heap.specs.Ready.{Ready}
 use Rattle.shared_heap.specs.Shared.{Shared, with_gc}
 use Rattle.heap_cycle.specs.Waiting.{unfinalised_by}
 use Rattle.heap_cycle.specs.declared.open_cycle.OpenCycle.{OpenCycle}
-use Rattle.heap_cycle.proofs.Bare.{cards_begun, cards_unshaded}
+use Rattle.heap_cycle.proofs.Opening.{new_cards, all_began, cards_same, blocks_same, still_old}
 use Rattle.heap_cycle.proofs.Starting.{start_all}
 use Rattle.zone_model.specs.declared.call.Call.TheVariants as call
 use Rattle.zone_model.specs.declared.entry.Reply.TheVariants as reply
@@ -122,21 +122,6 @@ module _ (options : Options) (old new : Tables) (shown : FinMap loc_cmp BlockId)
 
 -- a cycle that has opened over the tables
 module _ (old new : Tables) (mode : Mode) (o : OpenCycle) (keeps : KeepsCards old) (old_cards : OldCards old None) (is : IsOpened old new mode o) where
-  new_cards : KeepsCards new
-  new_cards = cards_unshaded (at_begin old) new is.tables (cards_begun old keeps)
-
-  all_began : new.blocks.began ≡ length new.blocks.order
-  all_began = ap (λ (t : Tables). t.blocks.began) is.tables ∙ sym (ap (λ (t : Tables). length t.blocks.order) is.tables)
-
-  cards_same : new.cards.list ≡ old.cards.list
-  cards_same = ap (λ (t : Tables). t.cards.list) is.tables
-
-  blocks_same : new.blocks.blocks ≡ old.blocks.blocks
-  blocks_same = ap (λ (t : Tables). t.blocks.blocks) is.tables
-
-  still_old : (a : BlockId) → IsTrue (among new.cards.list a) → IsTrue (is_old_at new.blocks.blocks a)
-  still_old a i = ap (λ m. is_old_at m a) blocks_same ∙ old_cards refl a (sym (ap (λ l. among l a) cards_same) ∙ i)
-
   -- a shade that is shown is that of the tables
   seen_shade : (b : BlockId) → IsTrue (among (start_of new) b) → shade_in (collecting new o) b ≡ shades_of new b
   seen_shade b i = marking_shade new o is.fresh b i
@@ -146,10 +131,10 @@ module _ (old new : Tables) (mode : Mode) (o : OpenCycle) (keeps : KeepsCards ol
   remembered_old z same b h = aged_alike z new.blocks.blocks same b (by (in_either new.cards.list (drop new.blocks.began new.blocks.order) b h))
     where
       nothing : drop new.blocks.began new.blocks.order ≡ []
-      nothing = ap (λ n. drop n new.blocks.order) all_began ∙ drop-length new.blocks.order
+      nothing = ap (λ n. drop n new.blocks.order) (all_began old new mode o keeps old_cards is) ∙ drop-length new.blocks.order
 
       by : Has new.cards.list b ⊎ Has (drop new.blocks.began new.blocks.order) b → IsTrue (is_old_at new.blocks.blocks b)
-      by (inl k) = still_old b (has_among new.cards.list b k)
+      by (inl k) = still_old old new mode o keeps old_cards is b (has_among new.cards.list b k)
       by (inr k) = absurd (subst (λ l. Has l b) nothing k)
 
   pub opened_dark : (options : Options) (shown : FinMap loc_cmp BlockId) (ready : Ready) (gc : Collector) (z : State) (u : ℕ) → Serves (seen_over options new shown ready gc) z u → AreTables new
@@ -162,7 +147,7 @@ module _ (old new : Tables) (mode : Mode) (o : OpenCycle) (keeps : KeepsCards ol
       → Opens h t mode (collector_of new (Some o))
   opens h t blocks gc table owner own left = record {
     cycle = collecting new o;
-    is = ap (λ l. let g : Collector = record { cards = l; cycle = Some (collecting new o) } in g) (cards_same ∙ sym (ap (λ (g : Collector). g.cards) gc));
+    is = ap (λ l. let g : Collector = record { cards = l; cycle = Some (collecting new o) } in g) (cards_same old new mode o keeps old_cards is ∙ sym (ap (λ (g : Collector). g.cards) gc));
     owner = owner;
     mode_is = own;
     start = λ b. (λ i. subst IsSome (sym (here b)) ((table.order b).0 (subst (λ l. Has l b) all (among_has (start_of new) b i))), λ there. has_among (start_of new) b (subst (λ l. Has l b) (sym all) ((table.order b).1 (subst IsSome (here b) there))));
@@ -173,10 +158,10 @@ module _ (old new : Tables) (mode : Mode) (o : OpenCycle) (keeps : KeepsCards ol
   }
     where
       all : start_of new ≡ new.blocks.order
-      all = start_all new table new_cards all_began
+      all = start_all new table (new_cards old new mode o keeps old_cards is) (all_began old new mode o keeps old_cards is)
 
       here : (b : BlockId) → get h.blocks b ≡ get new.blocks.blocks b
-      here b = ap (λ (m : FinMap id_cmp HeapBlock). get m b) (blocks ∙ sym blocks_same)
+      here b = ap (λ (m : FinMap id_cmp HeapBlock). get m b) (blocks ∙ sym (blocks_same old new mode o keeps old_cards is))
 
       grey_or_white : (b : BlockId) → Has (start_of new) b → shades_of new b ≡ shade.Black → ⊥
       grey_or_white b h black = by (is.begun.each b h)

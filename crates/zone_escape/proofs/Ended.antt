@@ -42,7 +42,7 @@ use Rattle.zone_escape.specs.Making.{CanMake, Makes}
 use Rattle.zone_escape.proofs.Held.{escaped_alike}
 use Rattle.zone_escape.proofs.Making.{belongs_now}
 use Rattle.zone_escape.specs.Telling.{below, emptied, stands_at, refer_from, LetsGo}
-use Rattle.zone_escape.proofs.Told.{told_both}
+use Rattle.escape_plan.proofs.Telling.{told_both}
 
 -- a part without registers and blocks holds nothing
 none_of : (p : Part) (q : BlockId) → ((r : ℕ) → p.registers r ≡ None) → ((a : BlockId) → get p.blocks a ≡ None) → holds_of p q ≡ 0

@@ -11,15 +11,8 @@ use Rattle.shared_heap.specs.Shared.{Shared, held}
 use Rattle.local_set.specs.LocalSets.{LocalSet, part_in}
 use Rattle.local_set.proofs.Lists.{next_taken, among_of}
 use Rattle.escape_plan.specs.Moving.{Told, CanTell}
+use Rattle.escape_plan.proofs.Telling.{told_as, can_still}
 use Rattle.zone_escape.specs.Telling.{below, moved_of, CanTellAll}
-
--- the same by another test that says the same
-pub told_as : (l : LocalSet) (h k : Shared) (f g : BlockId → Bool) → ((q : BlockId) → f q ≡ g q) → Told l h k f → Told l h k g
-told_as l h k f g same told = record {
-  held = λ u q. told.held u q ∙ ap (λ b. cond ((l.thread == u) && (b && is_some (get h.blocks q))) (holds_of (part_in l) q) (held h u q)) (same q);
-  rest = told.rest;
-  stands = told.stands;
-}
 
 -- nothing was told
 pub told_nothing : (l : LocalSet) (h : Shared) (f : BlockId → Bool) → ((q : BlockId) → f q ≡ false) → Told l h h f
@@ -49,53 +42,6 @@ told_absent l h id none = record { held = λ u q. go u q (same_id id q) refl; re
     go u q false e =
         other (l.thread == u) (is_some (get h.blocks q)) (holds_of (part_in l) q) (held h u q)
         ∙ ap (λ b. cond ((l.thread == u) && (b && is_some (get h.blocks q))) (holds_of (part_in l) q) (held h u q)) (sym e)
-
--- one after the other
-pub told_both : (l : LocalSet) (h mid k : Shared) (f g : BlockId → Bool) → Told l h mid f → Told l mid k g → Told l h k (λ q. f q || g q)
-told_both l h mid k f g first then = record {
-  held = λ u q.
-      then.held u q
-      ∙ ap (λ (s : Shared). cond ((l.thread == u) && (g q && is_some (get s.blocks q))) (holds_of (part_in l) q) (held mid u q)) first.rest
-      ∙ ap (cond ((l.thread == u) && (g q && is_some (get h.blocks q))) (holds_of (part_in l) q)) (first.held u q)
-      ∙ both (l.thread == u) (f q) (g q) (is_some (get h.blocks q)) (holds_of (part_in l) q) (held h u q);
-  rest = then.rest ∙ ap (λ (s : Shared). record s { holds = k.holds }) first.rest;
-  stands = λ z s. then.stands z (first.stands z s);
-}
-  where
-    both : (a r s e : Bool) (x y : ℕ) → cond (a && (s && e)) x (cond (a && (r && e)) x y) ≡ cond (a && ((r || s) && e)) x y
-    both false r s e x y = refl
-    both true true true true x y = refl
-    both true true true false x y = refl
-    both true true false e x y = refl
-    both true false s e x y = refl
-
--- what can be told can be told after something else was
-pub can_still : (l : LocalSet) (h mid : Shared) (f g : BlockId → Bool) → CanTell l h g → Told l h mid f → CanTell l mid g
-can_still l h mid f g can first q asked there = go (can q asked was) (f q) refl
-  where
-    was : is_some (get h.blocks q) ≡ true
-    was = ap (λ (s : Shared). is_some (get s.blocks q)) (sym first.rest) ∙ there
-
-    same : (l.thread == l.thread) ≡ true
-    same = grind (arith, nat_tests)
-
-    now : (b : Bool) → f q ≡ b → held mid l.thread q ≡ cond b (holds_of (part_in l) q) (held h l.thread q)
-    now b e =
-        first.held l.thread q ∙ ap (λ x. cond (x && (f q && is_some (get h.blocks q))) (holds_of (part_in l) q) (held h l.thread q)) same
-        ∙ ap (λ x. cond (x && is_some (get h.blocks q)) (holds_of (part_in l) q) (held h l.thread q)) e ∙ ap (λ x. cond (b && x) (holds_of (part_in l) q) (held h l.thread q)) was ∙ plain b
-      where
-        plain : (b : Bool) → cond (b && true) (holds_of (part_in l) q) (held h l.thread q) ≡ cond b (holds_of (part_in l) q) (held h l.thread q)
-        plain true = refl
-        plain false = refl
-
-    some_or_none : (n : ℕ) → (0 < n) ⊎ (n ≡ 0)
-    some_or_none zero = inr refl
-    some_or_none (suc n) = inl (omega arith)
-
-    go : (0 < held h l.thread q) ⊎ (holds_of (part_in l) q ≡ 0) → (b : Bool) → f q ≡ b → (0 < held mid l.thread q) ⊎ (holds_of (part_in l) q ≡ 0)
-    go (inr none) b e = inr none
-    go (inl some) true e = elim (some_or_none (holds_of (part_in l) q)) [ inl k ↦ inl (subst (λ n. 0 < n) (sym (now true e)) k) | inr k ↦ inr k ]
-    go (inl some) false e = inl (subst (λ n. 0 < n) (sym (now false e)) some)
 
 pub can_all_still : (l : LocalSet) (h mid : Shared) (f : BlockId → Bool) → CanTellAll l h → Told l h mid f → CanTellAll l mid
 can_all_still l h mid f can first sixteen = can_still l h mid f (λ q. true) (can sixteen) first

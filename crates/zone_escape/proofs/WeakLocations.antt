@@ -38,22 +38,6 @@ use Rattle.shared_heap.proofs.Standing.{seen_stands, register_stands}
 use Rattle.shared_heap.proofs.Stepping.{one_word, three}
 use Rattle.local_set.specs.LocalSets.{LocalSet, part_in}
 
--- the least misuse of a call that has one of the first three
-pub first_some : (a b c : Bool) (m : Misuse) (rest : Option Misuse) → cond a (Some misuse.NullBlock) (cond b (Some misuse.NoWord) (cond c (Some misuse.WrongClass) None)) ≡ Some m
-    → cond a (Some misuse.NullBlock) (cond b (Some misuse.NoWord) (cond c (Some misuse.WrongClass) rest)) ≡ Some m
-first_some true b c m rest h = h
-first_some false true c m rest h = h
-first_some false false true m rest h = h
-first_some false false false m rest h = cc
-
--- and of one that has none of them
-pub first_none : (a b c : Bool) (rest : Option Misuse) → cond a (Some misuse.NullBlock) (cond b (Some misuse.NoWord) (cond c (Some misuse.WrongClass) None)) ≡ None
-    → cond a (Some misuse.NullBlock) (cond b (Some misuse.NoWord) (cond c (Some misuse.WrongClass) rest)) ≡ rest
-first_none true b c rest h = cc
-first_none false true c rest h = cc
-first_none false false true rest h = cc
-first_none false false false rest h = refl
-
 -- the call names the value first, and the escape the block
 pub turned : (z : State) (need : BlockId → Bool) (a v b w : Option BlockId) → a ≡ b → v ≡ w → Tells need (λ c. EscOf z a c ⊎ EscOf z v c) → Tells need (λ c. EscOf z w c ⊎ EscOf z b c)
 turned z need a v b w ea ev tells c = (

@@ -5,7 +5,8 @@ use Rattle.az_base.specs.declared.word.Word.{Word}
 use Rattle.local_set.proofs.Lists.{all_taken, among_of}
 use Rattle.escape_plan.specs.Moving.{refer_to, Told}
 use Rattle.zone_escape.specs.Telling.{emptied, refer_from}
-use Rattle.zone_escape.proofs.Told.{told_as, told_both, told_nothing}
+use Rattle.escape_plan.proofs.Telling.{told_as, told_both}
+use Rattle.zone_escape.proofs.Told.{told_nothing}
 use Rattle.zone_escape.proofs.Ended.{refer_next, words_found}
 use Rattle.zone_escape.proofs.leaving.let_blocks_go.Goals as goal
 

@@ -1,7 +1,8 @@
 use Rattle.std.proofs.Common.{ℕ, sym, subst}
 use Rattle.escape_plan.specs.Moving.{Told}
 use Rattle.zone_escape.specs.Telling.{below, emptied, stands_at}
-use Rattle.zone_escape.proofs.Told.{told_as, told_both, told_nothing, below_none, below_more}
+use Rattle.escape_plan.proofs.Telling.{told_as, told_both}
+use Rattle.zone_escape.proofs.Told.{told_nothing, below_none, below_more}
 use Rattle.zone_escape.proofs.leaving.let_registers_go.Goals as goal
 
 pub loop-n-init : goal.loop-n-init

@@ -5,7 +5,8 @@ use Rattle.std.proofs.Common.{List}
 use Rattle.escape_plan.specs.Moving.{Told}
 use Rattle.zone_escape.specs.Telling.{below, moved_at}
 use Rattle.zone_escape.proofs.Held.{can_tell}
-use Rattle.zone_escape.proofs.Told.{told_both, can_still, can_some}
+use Rattle.escape_plan.proofs.Telling.{told_both, can_still}
+use Rattle.zone_escape.proofs.Told.{can_some}
 use Rattle.zone_escape.proofs.telling.tell.Goals as goal
 
 pub tell_registers-requires : goal.tell_registers-requires

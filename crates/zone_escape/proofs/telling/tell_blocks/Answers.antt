@@ -1,7 +1,8 @@
 use Rattle.std.proofs.Common.{length, refl}
 use Rattle.std.proofs.lemmas.Option.{slice_get_read}
 use Rattle.az_base.specs.Ids.{among, same_id}
-use Rattle.zone_escape.proofs.Told.{told_as, told_both, can_still, among_next, asked_here}
+use Rattle.escape_plan.proofs.Telling.{told_as, told_both, can_still}
+use Rattle.zone_escape.proofs.Told.{among_next, asked_here}
 use Rattle.zone_escape.proofs.telling.tell_blocks.Goals as goal
 
 pub tell_block-requires : goal.tell_block-requires

@@ -4,7 +4,8 @@ use Rattle.az_base.specs.Ids.{id_eq}
 use Rattle.zone_model.specs.Holds.{is_block}
 use Rattle.local_set.specs.LocalSets.{held_in}
 use Rattle.zone_escape.specs.Telling.{moved_of}
-use Rattle.zone_escape.proofs.Told.{told_as, told_both, moved, itself_eq}
+use Rattle.escape_plan.proofs.Telling.{told_as, told_both}
+use Rattle.zone_escape.proofs.Told.{moved, itself_eq}
 use Rattle.zone_escape.proofs.telling.tell_register.Goals as goal
 
 pub returns-clause-told : goal.returns-clause-told

@@ -1,7 +1,8 @@
 use Rattle.std.proofs.Common.{ℕ, sym, subst, arith}
 use Rattle.escape_plan.specs.Moving.{Told}
 use Rattle.zone_escape.specs.Telling.{below, moved_at}
-use Rattle.zone_escape.proofs.Told.{told_as, told_both, told_nothing, can_all_still, below_none, below_more}
+use Rattle.escape_plan.proofs.Telling.{told_as, told_both}
+use Rattle.zone_escape.proofs.Told.{told_nothing, can_all_still, below_none, below_more}
 use Rattle.zone_escape.proofs.telling.tell_registers.Goals as goal
 
 pub loop-n-init : goal.loop-n-init

@@ -4,7 +4,8 @@ use Rattle.zone_model.specs.declared.call.Call.TheVariants as call
 use Rattle.zone_model.specs.declared.call.Loc.TheVariants as loc
 use Rattle.zone_escape.proofs.Needs.{some_need}
 use Rattle.zone_escape.proofs.Shown.{misused, part, held, known}
-use Rattle.zone_escape.proofs.WeakLocations.{null_set, first_some}
+use Rattle.zone_escape.proofs.Stored.{first_some}
+use Rattle.zone_escape.proofs.WeakLocations.{null_set}
 use Rattle.zone_escape.proofs.weak.set_word.Goals as goal
 
 pub returns-in_default-clause-ok : goal.returns-in_default-clause-ok

@@ -13,7 +13,8 @@ use Rattle.shared_heap.specs.Weak.{after_assign, shown_in}
 use Rattle.local_set.specs.LocalSets.{LocalSet}
 use Rattle.zone_escape.proofs.Escaped.{has_escaped, is_too_much}
 use Rattle.zone_escape.proofs.Shown.{misused, made, running, held, known}
-use Rattle.zone_escape.proofs.WeakLocations.{turned, first_none, shows_value}
+use Rattle.zone_escape.proofs.Stored.{first_none}
+use Rattle.zone_escape.proofs.WeakLocations.{turned, shows_value}
 use Rattle.zone_escape.proofs.OpenCycles.{assign_keeps, both_keep}
 use Rattle.zone_escape.proofs.weak.show.Goals as goal
 
