@@ -107,7 +107,7 @@ can_still l h mid f g can first q asked there = go (can q asked was) (f q) refl
 pub told_more : (l : LocalSet) (h mid k : Shared) (ws : List Word) (i : ℕ) (w : Word) → slice_get ws i ≡ Some w → Told l h mid (refer_to (take i ws)) → Told l mid k (λ q. refers_to q w) → Told l h k (refer_to (take (i + 1) ws))
 told_more l h mid k ws i w at first then =
     told_as l h k (λ q. refer_to (take i ws) q || refers_to q w) (refer_to (take (i + 1) ws)) (λ q. sym (refer_more (take i ws) w q) ∙ ap (λ l. refer_to l q) (next_taken ws i w at))
-        (told_both l h mid k (refer_to (take i ws)) (λ q. refers_to q w) first then)
+    (told_both l h mid k (refer_to (take i ws)) (λ q. refers_to q w) first then)
 
 -- the next word can be told
 pub can_next : (l : LocalSet) (h mid : Shared) (ws : List Word) (i : ℕ) (w : Word) → slice_get ws i ≡ Some w → CanTell l h (refer_to ws) → Told l h mid (refer_to (take i ws)) → CanTell l mid (λ q. refers_to q w)
