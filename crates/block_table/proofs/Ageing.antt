@@ -1,5 +1,5 @@
 -- The table after one Reclaim more
-use Rattle.std.proofs.Common.{◌≡◌, ℕ, zero, suc, ◌+◌, ◌≤◌, Bool, true, false, cond, List, [], ◌∷◌, Option, Some, None, length, map, slice_get, refl, sym, ap, ◌∙◌, arith}
+use Rattle.std.proofs.Common.{◌≡◌, ℕ, suc, Bool, true, false, cond, List, [], ◌∷◌, Option, Some, None, length, map, refl, sym, ap, ◌∙◌, arith}
 use Rattle.std.specs.Option.{option_map}
 use Rattle.std.specs.Map.{lookup, keys_of}
 use Rattle.std.specs.FinMap.{FinMap, from_entries, get, same_map}
@@ -7,42 +7,12 @@ use Rattle.az_base.specs.declared.block_id.BlockId.{BlockId}
 use Rattle.az_base.specs.Ids.{id_cmp, id_eq, ids_total, exact_ids}
 use Rattle.az_base.proofs.Ids.{eq_ids}
 use Rattle.block_layouts.specs.Layouts.{quanta, len_of}
-use Rattle.indexmap.specs.IndexMap.{set_value_at}
 use Rattle.zone_model.specs.Maps.{map_values}
 use Rattle.zone_model.proofs.MapLaws.{get-map_values}
 use Rattle.zone_model.proofs.Sums.{total_each}
 use Rattle.block_table.specs.Stored.{HeapBlock, Row, older, older_row}
-use Rattle.block_table.specs.Table.{Table, IsKept, aged, aged_at, aged_to, each_of, table_of, used_by}
+use Rattle.block_table.specs.Table.{Table, IsKept, aged, each_of, table_of, used_by}
 use Rattle.block_table.proofs.Tables.{each_get}
-
--- one entry
-pub aged_set : (es : List (BlockId × Row)) (n : ℕ) (e : BlockId × Row) → slice_get es n ≡ Some e → set_value_at es n (older_row e.1) ≡ aged_at es n
-aged_set [] n e h = refl
-aged_set (x ∷ es) zero e h = let same : x ≡ e = ap (λ (o : Option (BlockId × Row)). elim o [ None ↦ x | Some y ↦ y ]) h in ap (λ (y : BlockId × Row). let r : List (BlockId × Row) = (x.0, older_row y.1) ∷ es in r) (sym same)
-aged_set (x ∷ es) (suc n) e h = ap (λ l. x ∷ l) (aged_set es n e h)
-
-pub aged_none : (es : List (BlockId × Row)) (n : ℕ) → None ≡ slice_get es n → es ≡ aged_at es n
-aged_none [] n h = refl
-aged_none (x ∷ es) zero h = cc
-aged_none (x ∷ es) (suc n) h = ap (λ l. x ∷ l) (aged_none es n h)
-
--- one after another
-pub aged_start : (es : List (BlockId × Row)) → es ≡ aged_to es 0
-aged_start [] = refl
-aged_start (x ∷ es) = refl
-
-aged_more : (es : List (BlockId × Row)) (n : ℕ) → aged_at (aged_to es n) n ≡ aged_to es (suc n)
-aged_more [] n = refl
-aged_more (x ∷ es) zero = ap (λ l. (x.0, older_row x.1) ∷ l) (aged_start es)
-aged_more (x ∷ es) (suc n) = ap (λ l. (x.0, older_row x.1) ∷ l) (aged_more es n)
-
-pub aged_next : (es : List (BlockId × Row)) (n : ℕ) → aged_at (aged_to es n) n ≡ aged_to es (n + 1)
-aged_next es n = let one : suc n ≡ n + 1 = omega arith in aged_more es n ∙ ap (aged_to es) one
-
-pub aged_end : (es : List (BlockId × Row)) (n : ℕ) → length es ≤ n → aged_to es n ≡ aged es
-aged_end [] n h = refl
-aged_end (x ∷ es) zero h = absurd (omega (arith, h))
-aged_end (x ∷ es) (suc n) h = ap (λ l. (x.0, older_row x.1) ∷ l) (aged_end es n (omega (arith, h)))
 
 -- the same keys, and as many
 pub aged_keys : (es : List (BlockId × Row)) → keys_of (aged es) ≡ keys_of es
@@ -84,7 +54,6 @@ aged_table t es b room is =
       blocks = each_of (λ (r : Row). r.kept) (aged es);
       holds = others_stay (λ (r : Row). r.holds) (λ r. refl) es i;
       shades = others_stay (λ (r : Row). r.shade) (λ r. refl) es i;
-      cards = others_stay (λ (r : Row). r.card) (λ r. refl) es i;
       order = aged_keys es i;
       began = b;
       room = room;

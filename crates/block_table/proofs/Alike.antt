@@ -1,5 +1,5 @@
 -- Blocks that are the same in two spaces
-use Rattle.std.proofs.Common.{◌≡◌, ℕ, zero, suc, ◌+◌, ◌*◌, ◌/◌, ◌%◌, ◌<◌, ◌≤◌, ◌^◌, false, List, [], ◌∷◌, length, refl, sym, ap, ◌∙◌, subst, arith}
+use Rattle.std.proofs.Common.{◌≡◌, ℕ, zero, suc, ◌+◌, ◌*◌, ◌/◌, ◌%◌, ◌<◌, ◌≤◌, ◌^◌, List, [], ◌∷◌, length, refl, sym, ap, ◌∙◌, subst, arith}
 use Rattle.std.specs.Option.{option_map_or, unwrap_or}
 use Rattle.az_base.specs.declared.block_id.BlockId.{BlockId}
 use Rattle.block_layouts.specs.declared.layout.Shape.TheVariants as layout
@@ -37,7 +37,6 @@ same_row s z x k e = λ i. record {
   kept = same_block s z x k e i;
   holds = k.holds;
   shade = ap shade_told e.byte i;
-  card = false;
 }
 
 pub same_rows : (s z : Space') (ks : List (BlockId × Kept')) → ((x : Spot) → IsSameSpot s z x) → (rs : List (BlockId × Spot)) → rows_in (unmarked z) z ks rs ≡ rows_in (unmarked s) s ks rs

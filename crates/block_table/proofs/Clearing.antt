@@ -51,7 +51,6 @@ removed_are t g c new ks ls ids is same spare less all = record {
   blocks = less.blocks ∙ ap (λ es. without (each_of (λ (r : Row). r.kept) es) ids) same ∙ ap (λ (y : Table). without y.blocks ids) is;
   holds = less.holds ∙ ap (λ es. without (each_of (λ (r : Row). r.holds) es) ids) same ∙ ap (λ (y : Table). without y.holds ids) is;
   shades = less.shades ∙ ap (λ es. without (each_of (λ (r : Row). r.shade) es) ids) same ∙ ap (λ (y : Table). without y.shades ids) is;
-  cards = less.cards ∙ ap (λ es. without (each_of (λ (r : Row). r.card) es) ids) same ∙ ap (λ (y : Table). without y.cards ids) is;
   began = all ∙ sym (key_count new.rows) ∙ ap length (sym (keys_rows (unmarked new.space) new.space ls new.rows));
   room = less.room ∙ spare;
 }

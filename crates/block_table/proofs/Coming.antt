@@ -119,7 +119,7 @@ module _ (t : Table) (g : Graph') (ks ls : List (BlockId × Kept')) (is : lying_
   x = put.spot
 
   abbrev pub come_row : Row
-  come_row = record { kept = newly l ws k.actions; holds = k.holds; shade = shade.Black; card = false }
+  come_row = record { kept = newly l ws k.actions; holds = k.holds; shade = shade.Black }
 
   kept_at : (q : BlockId) (b : Bool) → id_eq id q ≡ b → kept_for ls q ≡ cond b k (kept_for ks q)
   kept_at q true e = ap (λ o. unwrap_or o nothing_kept) (kept q ∙ ap (λ b. cond b (Some k) (lookup (id_eq q) ks)) e)
@@ -137,7 +137,6 @@ module _ (t : Table) (g : Graph') (ks ls : List (BlockId × Kept')) (is : lying_
     };
     holds = k.holds;
     shade = ap shade_told put.byte i;
-    card = false;
   }
 
   at_last : spot_for new.rows id ≡ Some x

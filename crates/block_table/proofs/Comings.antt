@@ -1,5 +1,5 @@
 -- The table where blocks come and go
-use Rattle.std.proofs.Common.{◌≡◌, ℕ, zero, suc, ◌||◌, ◌+◌, ◌-◌, ◌*◌, ◌≤◌, ◌<◌, ◌^◌, Bool, true, false, cond, not, List, [], ◌∷◌, ◌++◌, Option, Some, None, length, drop, take, slice_get, refl, sym, ap, ◌∙◌, subst, arith}
+use Rattle.std.proofs.Common.{◌≡◌, ℕ, zero, suc, ◌||◌, ◌+◌, ◌-◌, ◌≤◌, Bool, true, false, cond, not, List, [], ◌∷◌, ◌++◌, Option, Some, None, length, drop, take, slice_get, refl, sym, ap, ◌∙◌, subst, arith}
 use Rattle.std.specs.Option.{option_map, option_map_or}
 use Rattle.std.specs.Map.{lookup, keys_of}
 use Rattle.std.specs.FinMap.{FinMap, get, insert, remove, get-insert, get-remove, get-retain_keys, same_map}
@@ -12,7 +12,6 @@ use Rattle.zone_model.proofs.MapLaws.{total-empty, at_value}
 use Rattle.zone_model.proofs.Totals.{total_added}
 use Rattle.block_table.specs.Stored.{HeapBlock, Row}
 use Rattle.block_table.specs.Table.{Table, IsKept, IsRemoved, each_of, table_of, used_by, without}
-use Rattle.block_table.proofs.Found.{at_kept}
 use Rattle.block_table.proofs.Tables.{each_get, each_insert}
 
 size : BlockId → HeapBlock → ℕ
@@ -37,18 +36,17 @@ module _ (es fs : List (BlockId × Row)) (id : BlockId) (r : Row) (more : (q : B
   come f = each_insert f id_eq eq_ids es fs id r more
 
   pub come_table : (t : Table) (b : ℕ) (room : List ℕ) → table_of es b room ≡ t → keys_of fs ≡ keys_of es ++ id ∷ []
-      → table_of fs b (drop 1 room) ≡ record { blocks = insert t.blocks id r.kept; holds = insert t.holds id r.holds; shades = insert t.shades id r.shade; cards = insert t.cards id r.card; order = t.order ++ id ∷ []; began = t.began; room = drop 1 t.room }
+      → table_of fs b (drop 1 room) ≡ record { blocks = insert t.blocks id r.kept; holds = insert t.holds id r.holds; shades = insert t.shades id r.shade; order = t.order ++ id ∷ []; began = t.began; room = drop 1 t.room }
   come_table t b room is keys =
       (λ i. record {
         blocks = come (λ (r : Row). r.kept) i;
         holds = come (λ (r : Row). r.holds) i;
         shades = come (λ (r : Row). r.shade) i;
-        cards = come (λ (r : Row). r.card) i;
         order = keys i;
         began = b;
         room = drop 1 room;
       })
-      ∙ ap (λ (t : Table). let y : Table = record { blocks = insert t.blocks id r.kept; holds = insert t.holds id r.holds; shades = insert t.shades id r.shade; cards = insert t.cards id r.card; order = t.order ++ id ∷ []; began = t.began; room = drop 1 t.room } in y) is
+      ∙ ap (λ (t : Table). let y : Table = record { blocks = insert t.blocks id r.kept; holds = insert t.holds id r.holds; shades = insert t.shades id r.shade; order = t.order ++ id ∷ []; began = t.began; room = drop 1 t.room } in y) is
 
   pub come_kept : (b u v n m : ℕ) (room rest : List ℕ) → None ≡ get (each_of (λ (r : Row). r.kept) es) id → length fs ≡ length es + 1 → n ≤ m + 1 → length rest + 1 ≡ length room → v ≡ u + quanta (len_of r.kept.layout) → quanta (len_of r.kept.layout) ≤ 2048
       → IsKept es b u room n → IsKept fs b v rest m
@@ -78,7 +76,6 @@ module _ (es fs : List (BlockId × Row)) (id : BlockId) (less : (q : BlockId) �
     blocks = gone (λ (r : Row). r.kept);
     holds = gone (λ (r : Row). r.holds);
     shades = gone (λ (r : Row). r.shade);
-    cards = gone (λ (r : Row). r.card);
     began = refl;
     room = refl;
   })
@@ -122,31 +119,10 @@ module _ (es fs : List (BlockId × Row)) (id : BlockId) (less : (q : BlockId) �
               by q false s = get-remove ids_total m id q ∙ ap (λ t. cond t None (get m q)) s
               by q true s = sym (ap (get m) (same_is q id s) ∙ e)
 
--- room is taken
-pub reserved_kept : (es fs : List (BlockId × Row)) (b u n m : ℕ) (room rest : List ℕ) → fs ≡ es → length rest ≤ m → length es + length rest < 2 ^ 32 → u + 2048 * length rest < 2 ^ 64 → IsKept es b u room n → IsKept fs b u rest m
-reserved_kept es fs b u n m room rest same fits few sum k = subst (λ es. IsKept es b u rest m) (sym same) (record { used = k.used; began = k.began; room = fits; few = few; sum = sum })
-
 -- where there is a next length, there is one less behind it
 pub fewer : (xs : List ℕ) (n : ℕ) → slice_get xs 0 ≡ Some n → length (drop 1 xs) + 1 ≡ length xs
 fewer [] n e = cc
 fewer (x ∷ xs) n e = omega arith
-
--- a block that isn't there has no entry
-pub no_entry : (t : Table) (es : List (BlockId × Row)) (b : ℕ) (room : List ℕ) → table_of es b room ≡ t → (id : BlockId) → get t.blocks id ≡ None → lookup (id_eq id) es ≡ None
-no_entry t es b room is id none = go (lookup (id_eq id) es) refl
-  where
-    go : (o : Option Row) → lookup (id_eq id) es ≡ o → o ≡ None
-    go None e = refl
-    go (Some r) e = let there : get t.blocks id ≡ Some r.kept = at_kept t es b room is id (Some r) (sym e) in let no : None ≡ Some r.kept = sym none ∙ there in cc
-
--- one entry more at the end
-pub keys_push : (es : List (BlockId × Row)) (e : BlockId × Row) → keys_of (es ++ e ∷ []) ≡ keys_of es ++ e.0 ∷ []
-keys_push [] e = refl
-keys_push (x ∷ es) e = ap (λ l. x.0 ∷ l) (keys_push es e)
-
-pub long_push : (es : List (BlockId × Row)) (e : BlockId × Row) → length (es ++ e ∷ []) ≡ length es + 1
-long_push [] e = omega arith
-long_push (x ∷ es) e = let r = long_push es e in omega (arith, r)
 
 -- the fields of a table from which a block went
 pub gone_kept : (es fs : List (BlockId × Row)) (id : BlockId) (u n s m : ℕ) (room : List ℕ) → ((q : BlockId) → lookup (id_eq q) fs ≡ cond (id_eq id q) None (lookup (id_eq q) es))

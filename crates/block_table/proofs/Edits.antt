@@ -1,13 +1,11 @@
 -- How the table changes where one entry does
-use Rattle.std.proofs.Common.{◌≡◌, ℕ, ◌+◌, Bool, cond, List, Option, Some, None, length, refl, ap, ◌∙◌, arith}
-use Rattle.std.specs.Option.{option_map_or}
+use Rattle.std.proofs.Common.{◌≡◌, ℕ, ◌+◌, cond, List, Some, length, ap, ◌∙◌, arith}
 use Rattle.std.specs.Map.{lookup, keys_of}
 use Rattle.std.specs.FinMap.{FinMap, get, insert}
 use Rattle.az_base.specs.declared.block_id.BlockId.{BlockId}
 use Rattle.az_base.specs.Ids.{id_cmp, id_eq, ids_total, exact_ids}
 use Rattle.az_base.proofs.Ids.{eq_ids}
 use Rattle.block_layouts.specs.Layouts.{quanta, len_of}
-use Rattle.quantum_space.specs.declared.shade.Shade.{Shade}
 use Rattle.zone_model.specs.Maps.{total}
 use Rattle.zone_model.proofs.MapLaws.{total-insert, at_value}
 use Rattle.zone_model.specs.State.{with_edit}
@@ -15,18 +13,6 @@ use Rattle.block_table.specs.Holds.{Holds}
 use Rattle.block_table.specs.Stored.{HeapBlock, Row}
 use Rattle.block_table.specs.Table.{Table, IsKept, each_of, table_of, used_by}
 use Rattle.block_table.proofs.Tables.{each_edit, each_kept, each_insert, each_there}
-
--- an edit that keeps what is summed keeps the sum
-pub sum_edited : (f : BlockId → HeapBlock → ℕ) (m : FinMap id_cmp HeapBlock) (id : BlockId) (g : HeapBlock → HeapBlock) → ((k : HeapBlock) → f id (g k) ≡ f id k) → total f (with_edit m id g) ≡ total f m
-sum_edited f m id g same = go (get m id) refl
-  where
-    go : (o : Option HeapBlock) → get m id ≡ o → total f (option_map_or (λ k. insert m id (g k)) o m) ≡ total f m
-    go None e = refl
-    go (Some k) e =
-        let sum : total f (insert m id (g k)) + at_value (f id) (get m id) ≡ total f m + f id (g k) = total-insert ids_total exact_ids f m id (g k) in
-        let was : at_value (f id) (get m id) ≡ f id k = ap (at_value (f id)) e in
-        let is : f id (g k) ≡ f id k = same k in
-        omega arith
 
 module _ (es fs : List (BlockId × Row)) (id : BlockId) (was now : Row) (here : Some was ≡ lookup (id_eq id) es)
     (edited : (q : BlockId) → lookup (id_eq q) fs ≡ cond (id_eq id q) (Some now) (lookup (id_eq q) es)) (keys : keys_of fs ≡ keys_of es) where
@@ -40,7 +26,6 @@ module _ (es fs : List (BlockId × Row)) (id : BlockId) (was now : Row) (here : 
           blocks = each_edit (λ (r : Row). r.kept) id_eq eq_ids es fs id was now g here (ap (λ (r : Row). r.kept) e) edited i;
           holds = kept_by (λ (r : Row). r.holds) (ap (λ (r : Row). r.holds) e) i;
           shades = kept_by (λ (r : Row). r.shade) (ap (λ (r : Row). r.shade) e) i;
-          cards = kept_by (λ (r : Row). r.card) (ap (λ (r : Row). r.card) e) i;
           order = keys i;
           began = b;
           room = room;
@@ -53,38 +38,11 @@ module _ (es fs : List (BlockId × Row)) (id : BlockId) (was now : Row) (here : 
           blocks = kept_by (λ (r : Row). r.kept) (ap (λ (r : Row). r.kept) e) i;
           holds = each_edit (λ (r : Row). r.holds) id_eq eq_ids es fs id was now g here (ap (λ (r : Row). r.holds) e) edited i;
           shades = kept_by (λ (r : Row). r.shade) (ap (λ (r : Row). r.shade) e) i;
-          cards = kept_by (λ (r : Row). r.card) (ap (λ (r : Row). r.card) e) i;
           order = keys i;
           began = b;
           room = room;
         })
         ∙ ap (λ (x : Table). let y : Table = record x { holds = with_edit x.holds id g } in y) is
-
-    pub shade_set : (s : Shade) → now ≡ record was { shade = s } → table_of fs b room ≡ record t { shades = insert t.shades id s }
-    shade_set s e =
-        (λ i. record {
-          blocks = kept_by (λ (r : Row). r.kept) (ap (λ (r : Row). r.kept) e) i;
-          holds = kept_by (λ (r : Row). r.holds) (ap (λ (r : Row). r.holds) e) i;
-          shades = (each_insert (λ (r : Row). r.shade) id_eq eq_ids es fs id now edited ∙ ap (λ (r : Row). insert (each_of (λ (r : Row). r.shade) es) id r.shade) e) i;
-          cards = kept_by (λ (r : Row). r.card) (ap (λ (r : Row). r.card) e) i;
-          order = keys i;
-          began = b;
-          room = room;
-        })
-        ∙ ap (λ (x : Table). let y : Table = record x { shades = insert x.shades id s } in y) is
-
-    pub card_set : (c : Bool) → now ≡ record was { card = c } → table_of fs b room ≡ record t { cards = insert t.cards id c }
-    card_set c e =
-        (λ i. record {
-          blocks = kept_by (λ (r : Row). r.kept) (ap (λ (r : Row). r.kept) e) i;
-          holds = kept_by (λ (r : Row). r.holds) (ap (λ (r : Row). r.holds) e) i;
-          shades = kept_by (λ (r : Row). r.shade) (ap (λ (r : Row). r.shade) e) i;
-          cards = (each_insert (λ (r : Row). r.card) id_eq eq_ids es fs id now edited ∙ ap (λ (r : Row). insert (each_of (λ (r : Row). r.card) es) id r.card) e) i;
-          order = keys i;
-          began = b;
-          room = room;
-        })
-        ∙ ap (λ (x : Table). let y : Table = record x { cards = insert x.cards id c } in y) is
 
     pub nothing_edited : now ≡ was → table_of fs b room ≡ t
     nothing_edited e =
@@ -92,7 +50,6 @@ module _ (es fs : List (BlockId × Row)) (id : BlockId) (was now : Row) (here : 
           blocks = kept_by (λ (r : Row). r.kept) (ap (λ (r : Row). r.kept) e) i;
           holds = kept_by (λ (r : Row). r.holds) (ap (λ (r : Row). r.holds) e) i;
           shades = kept_by (λ (r : Row). r.shade) (ap (λ (r : Row). r.shade) e) i;
-          cards = kept_by (λ (r : Row). r.card) (ap (λ (r : Row). r.card) e) i;
           order = keys i;
           began = b;
           room = room;

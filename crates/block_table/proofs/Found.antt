@@ -22,9 +22,6 @@ module _ (t : Table) (es : List (BlockId × Row)) (b : ℕ) (room : List ℕ) (i
   pub at_shade : get t.shades id ≡ option_map (λ (r : Row). r.shade) o
   at_shade = ap (λ (x : Table). get x.shades id) (sym is) ∙ each_get (λ (r : Row). r.shade) id_eq eq_ids es id ∙ ap (option_map (λ (r : Row). r.shade)) (sym found)
 
-  pub at_card : get t.cards id ≡ option_map (λ (r : Row). r.card) o
-  at_card = ap (λ (x : Table). get x.cards id) (sym is) ∙ each_get (λ (r : Row). r.card) id_eq eq_ids es id ∙ ap (option_map (λ (r : Row). r.card)) (sym found)
-
   pub there_alike : is_some o ≡ is_some (get t.blocks id)
   there_alike = mapped o ∙ sym (ap is_some at_kept)
     where

@@ -1,13 +1,7 @@
 -- The front of a list of blocks, and one shade that is set
-use Rattle.std.proofs.Common.{◌≡◌, ℕ, zero, suc, ◌<◌, true, false, Bool, cond, List, [], ◌∷◌, Some, take, slice_get, refl, ap, ◌∙◌, arith, inl, inr, unwrap_or, if◌then◌else◌}
-use Rattle.std.specs.Cmp.{eq_by_cmp_equiv}
-use Rattle.std.specs.FinMap.{FinMap, get, insert, get-insert}
+use Rattle.std.proofs.Common.{◌≡◌, ℕ, zero, suc, ◌<◌, List, [], ◌∷◌, Some, take, slice_get, ap, arith, inl, inr}
 use Rattle.az_base.specs.declared.block_id.BlockId.{BlockId}
-use Rattle.az_base.specs.Ids.{id_cmp, same_id, ids_total}
-use Rattle.quantum_space.specs.declared.shade.Shade.{Shade}
-use Rattle.quantum_space.specs.declared.shade.Shade.TheVariants as shade
 use Rattle.quantum_space.specs.Shapes.{Has}
-use Rattle.block_table.specs.Table.{shades_in}
 
 pub take_has : (xs : List BlockId) (m n : ℕ) (b : BlockId) → slice_get xs n ≡ Some b → n < m → Has (take m xs) b
 take_has [] m n b e l = cc
@@ -28,12 +22,3 @@ in_whole [] (suc m) b h = h
 in_whole (x ∷ xs) zero b h = absurd h
 in_whole (x ∷ xs) (suc m) b (inl e) = inl e
 in_whole (x ∷ xs) (suc m) b (inr h) = inr (in_whole xs m b h)
-
-pub shaded_one : (m : FinMap id_cmp Shade) (id : BlockId) (s : Shade) (q : BlockId) → shades_in (insert m id s) q ≡ (if same_id id q then s else shades_in m q)
-shaded_one m id s q = ap (λ o. unwrap_or o shade.White) (get-insert ids_total m id s q) ∙ go (same_id q id) (same_id id q) ((eq_by_cmp_equiv ids_total).symm q id)
-  where
-    go : (t u : Bool) → t ≡ u → unwrap_or (cond t (Some s) (get m q)) shade.White ≡ (if u then s else unwrap_or (get m q) shade.White)
-    go true true e = refl
-    go false false e = refl
-    go true false e = cc
-    go false true e = cc

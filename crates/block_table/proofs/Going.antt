@@ -76,7 +76,7 @@ module _ (g new : Graph') (inv : IsGraph g) (ks ls : List (BlockId × Kept')) (i
 
   pub one_less : HasOneLess (lying_table g ks) id (lying_table new ls)
   one_less = (let gone = gone_table (entries_of g ks) (entries_of new ls) id row_gone (lying_table g ks) g.began g.space.spare refl in
-      record { blocks = gone.blocks; holds = gone.holds; shades = gone.shades; cards = gone.cards; room = out.spare })
+      record { blocks = gone.blocks; holds = gone.holds; shades = gone.shades; room = out.spare })
 
   pub lying_gone : (used n room more : ℕ) → n ≡ option_map_or (λ (r : Row). quanta (len_of r.kept.layout)) (lookup (id_eq id) (entries_of g ks)) 0 → room ≤ more → AreLying g ks used room → AreLying new ls (used - n) more
   lying_gone used n room more sum spare lying = record {
@@ -119,7 +119,7 @@ its_quanta g ks id x n e is =
 pub none_less : (t : Table) (g : Graph') (ks : List (BlockId × Kept')) (id : BlockId) → lying_table g ks ≡ t → spot_for g.rows id ≡ None → HasOneLess (lying_table g ks) id (lying_table g ks)
 none_less t g ks id is e =
     (let gone = gone_table (entries_of g ks) (entries_of g ks) id (λ q. go q (id_eq id q) refl) (lying_table g ks) g.began g.space.spare refl in
-    record { blocks = gone.blocks; holds = gone.holds; shades = gone.shades; cards = gone.cards; room = refl })
+    record { blocks = gone.blocks; holds = gone.holds; shades = gone.shades; room = refl })
   where
     none : lookup (id_eq id) (entries_of g ks) ≡ None
     none = row_for (unmarked g.space) g.space ks g.rows id ∙ ap (option_map (λ y. row_in (unmarked g.space) g.space y (kept_for ks id))) e
@@ -134,7 +134,6 @@ less_first t = record {
   blocks = sym (without_none t.blocks);
   holds = sym (without_none t.holds);
   shades = sym (without_none t.shades);
-  cards = sym (without_none t.cards);
   room = refl;
 }
 
@@ -143,7 +142,6 @@ less_next t cur new ids n id at is one = record {
   blocks = next_without t.blocks cur.blocks new.blocks ids n id at is.blocks one.blocks;
   holds = next_without t.holds cur.holds new.holds ids n id at is.holds one.holds;
   shades = next_without t.shades cur.shades new.shades ids n id at is.shades one.shades;
-  cards = next_without t.cards cur.cards new.cards ids n id at is.cards one.cards;
   room = one.room ∙ is.room;
 }
 

@@ -1,5 +1,5 @@
 -- Blocks in a space grow older
-use Rattle.std.proofs.Common.{◌≡◌, ℕ, suc, ◌+◌, ◌*◌, ◌/◌, ◌%◌, min, false, List, [], ◌∷◌, Some, None, get_or, slice_get, refl, sym, ap, ◌∙◌, subst, arith}
+use Rattle.std.proofs.Common.{◌≡◌, ℕ, suc, ◌+◌, ◌*◌, ◌/◌, ◌%◌, min, List, [], ◌∷◌, Some, None, get_or, slice_get, refl, sym, ap, ◌∙◌, subst, arith}
 use Rattle.std.specs.Option.{option_map_or, unwrap_or}
 use Rattle.az_base.specs.declared.block_id.BlockId.{BlockId}
 use Rattle.block_layouts.specs.declared.layout.Shape.TheVariants as layout
@@ -66,7 +66,6 @@ module _ (s z : Space') (sound : IsSound s) (e : IsRenotedSpace aged_byte s z) w
     kept = older_block x k has i;
     holds = k.holds;
     shade = ap (λ (n : Admin). n.shade) (told x has) i;
-    card = false;
   }
 
   older_rows : (ks : List (BlockId × Kept')) (rs : List (BlockId × Spot)) → ((n : ℕ) (r : BlockId × Spot) → slice_get rs n ≡ Some r → HasBlockIn s r.1) → rows_in (unmarked z) z ks rs ≡ aged (rows_in (unmarked s) s ks rs)

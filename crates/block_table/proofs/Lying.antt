@@ -137,16 +137,12 @@ map_kept {X} f u s z ks same (e ∷ rs) =
 kept_same : {X : Type 0} (f : Row → X) (u s z : Space') (ks : List (BlockId × Kept')) → ((x : Spot) (k : Kept') → f (row_in u s x k) ≡ f (row_in u z x k)) → (rs : List (BlockId × Spot)) → each_of f (rows_in u s ks rs) ≡ each_of f (rows_in u z ks rs)
 kept_same f u s z ks same rs = ap from_entries (map_kept f u s z ks same rs)
 
-abbrev with_marks : Table → Table → Table
-with_marks t new = record t { shades = new.shades }
-
 pub marked_table : (g new : Graph') (ks : List (BlockId × Kept')) → rest_of new ≡ rest_of g → lying_table new ks ≡ (let y : Table = record (lying_table g ks) { shades = (lying_table new ks).shades } in y)
 marked_table g new ks rest =
     moved ∙ (λ i. record {
       blocks = kept_same (λ (r : Row). r.kept) (unmarked g.space) new.space g.space ks (λ x k. refl) g.rows i;
       holds = kept_same (λ (r : Row). r.holds) (unmarked g.space) new.space g.space ks (λ x k. refl) g.rows i;
       shades = each_of (λ (r : Row). r.shade) (rows_in (unmarked g.space) new.space ks g.rows);
-      cards = kept_same (λ (r : Row). r.card) (unmarked g.space) new.space g.space ks (λ x k. refl) g.rows i;
       order = (keys_rows (unmarked g.space) new.space ks g.rows ∙ sym (keys_rows (unmarked g.space) g.space ks g.rows)) i;
       began = g.began;
       room = g.space.spare;

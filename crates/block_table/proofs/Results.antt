@@ -1,6 +1,6 @@
 -- What a fact of an answer becomes
 use Rattle.std.proofs.Common.{Result, Ok, Err}
-use Rattle.std.specs.Result.{IfOk, OnOk, OnErr}
+use Rattle.std.specs.Result.{OnOk, OnErr}
 
 module _ {A E P Q : Type 0} where
   pub on_ok : (r : Result A E) → (P → Q) → OnOk r P → OnOk r Q
@@ -10,8 +10,3 @@ module _ {A E P Q : Type 0} where
   pub on_err : (r : Result A E) → (P → Q) → OnErr r P → OnErr r Q
   on_err (Ok a) f p = tt
   on_err (Err e) f p = f p
-
--- two facts of an answer become one
-pub both_ok : {A E : Type 0} {P Q S : A → Type 0} (r : Result A E) → ((a : A) → P a → Q a → S a) → IfOk r P → IfOk r Q → IfOk r S
-both_ok (Ok a) f p q = f a p q
-both_ok (Err e) f p q = tt

@@ -102,7 +102,6 @@ module _ (g : Graph') (inv : IsGraph g) (sound : IsSound g.space) (ks : List (Bl
     kept = block_here j;
     holds = k.holds;
     shade = ap shade_told (word_byte g.space x i (unplaced v) x) j;
-    card = false;
   }
 
   pub was_here : Some was_row ≡ lookup (id_eq id) (entries_of g ks)

@@ -1,28 +1,17 @@
 -- What holds of every table
-use Rattle.std.proofs.Common.{◌≡◌, ℕ, suc, ◌≤◌, Bool, true, false, List, [], ◌∷◌, Option, Some, None, IsSome, length, is_some, refl, sym, ap, ◌∙◌, subst, arith, inl, inr}
-use Rattle.std.specs.List.{IsDistinct, AllByRecursion, list_any}
+use Rattle.std.proofs.Common.{◌≡◌, ℕ, suc, Bool, true, List, [], ◌∷◌, Option, Some, None, IsSome, length, is_some, refl, sym, ap, ◌∙◌, subst, arith}
+use Rattle.std.specs.List.{list_any}
 use Rattle.std.specs.Map.{lookup, keys_of}
 use Rattle.std.proofs.lemmas.Map.Made.{is_some-lookup}
 use Rattle.az_base.specs.declared.block_id.BlockId.{BlockId}
 use Rattle.az_base.specs.Ids.{id_eq, among}
-use Rattle.az_base.proofs.Ids.{eq_ids, eq_self}
+use Rattle.az_base.proofs.Ids.{eq_ids}
 use Rattle.quantum_space.specs.Shapes.{Has, Once}
 use Rattle.quantum_space.proofs.Lists.{has_among, among_has}
 use Rattle.block_table.specs.Stored.{Row}
 use Rattle.block_table.specs.Table.{Table, IsKept, IsTable, table_of}
 use Rattle.block_table.proofs.Tables.{same_keys}
 use Rattle.block_table.proofs.Found.{there_alike}
-
--- keys that differ by test stand once each
-not_after : (b : BlockId) (xs : List BlockId) → AllByRecursion (λ y. id_eq b y ≡ false) xs → ¬ Has xs b
-not_after b [] a h = h
-not_after b (x ∷ xs) a (inl e) = let t : id_eq b b ≡ false = subst (λ y. id_eq b y ≡ false) e a.0 in let s = eq_self b in cc
-not_after b (x ∷ xs) a (inr h) = not_after b xs a.1 h
-
-pub once_each : (xs : List BlockId) → IsDistinct id_eq xs → Once xs
-unfolding IsDistinct
-once_each [] d = tt
-once_each (x ∷ xs) d = (not_after x xs d.0, once_each xs d.1)
 
 -- a key stands among the keys exactly where it is found
 by_test : (b : BlockId) (ks : List BlockId) → list_any (id_eq b) ks ≡ among ks b
@@ -55,11 +44,6 @@ tabled t es b u n room is once k = subst IsTable is (record {
   );
   holds = λ q. same_keys (λ (r : Row). r.holds) (λ (r : Row). r.kept) es q;
   shades = λ q. same_keys (λ (r : Row). r.shade) (λ (r : Row). r.kept) es q;
-  cards = λ q. same_keys (λ (r : Row). r.card) (λ (r : Row). r.kept) es q;
   began = (let h = k.began in let l = long es in omega (arith, h, l));
   few = (let h = k.few in let l = long es in omega (arith, h, l));
 })
-
--- another number of blocks that have begun
-pub kept_from : (es : List (BlockId × Row)) (b a u n : ℕ) (room : List ℕ) → a ≤ length es → IsKept es b u room n → IsKept es a u room n
-kept_from es b a u n room h k = record { used = k.used; began = h; room = k.room; few = k.few; sum = k.sum }

@@ -16,7 +16,7 @@ use Rattle.block_layouts.specs.declared.layout.Layout.{Layout}
 use Rattle.quantum_space.specs.declared.shade.Shade.{Shade}
 use Rattle.quantum_space.specs.declared.shade.Shade.TheVariants as shade
 use Rattle.block_table.specs.Holds.{Holds}
-use Rattle.block_table.specs.Stored.{HeapBlock, Row}
+use Rattle.block_table.specs.Stored.{HeapBlock}
 use Rattle.block_table.specs.Table.{Table}
 use Rattle.block_table.specs.Lying.{Kept'}
 
@@ -50,12 +50,8 @@ abbrev pub coded_part : Coded Kept'
 coded_part = code_by (List Action × (Holds × Bool)) (coded× (coded_list coded_action) (coded× coded_holds coded_bool))
     (λ k. (k.actions, (k.holds, k.finalised))) (λ p. record { actions = p.0; holds = p.1.0; finalised = p.1.1 }) (λ _. refl)
 
-abbrev pub coded_row : Coded Row
-coded_row = code_by (HeapBlock × (Holds × (Shade × Bool))) (coded× coded_kept (coded× coded_holds (coded× coded_shade coded_bool)))
-    (λ r. (r.kept, (r.holds, (r.shade, r.card)))) (λ p. record { kept = p.0; holds = p.1.0; shade = p.1.1.0; card = p.1.1.1 }) (λ _. refl)
-
 abbrev pub coded_table : Coded Table
-coded_table = code_by (FinMap id_cmp HeapBlock × (FinMap id_cmp Holds × (FinMap id_cmp Shade × (FinMap id_cmp Bool × (List BlockId × (ℕ × List ℕ))))))
-    (coded× (map.code coded_id coded_kept) (coded× (map.code coded_id coded_holds) (coded× (map.code coded_id coded_shade) (coded× (map.code coded_id coded_bool) (coded× (coded_list coded_id) (coded× coded_ℕ (coded_list coded_ℕ)))))))
-    (λ t. (t.blocks, (t.holds, (t.shades, (t.cards, (t.order, (t.began, t.room)))))))
-    (λ p. record { blocks = p.0; holds = p.1.0; shades = p.1.1.0; cards = p.1.1.1.0; order = p.1.1.1.1.0; began = p.1.1.1.1.1.0; room = p.1.1.1.1.1.1 }) (λ _. refl)
+coded_table = code_by (FinMap id_cmp HeapBlock × (FinMap id_cmp Holds × (FinMap id_cmp Shade × (List BlockId × (ℕ × List ℕ)))))
+    (coded× (map.code coded_id coded_kept) (coded× (map.code coded_id coded_holds) (coded× (map.code coded_id coded_shade) (coded× (coded_list coded_id) (coded× coded_ℕ (coded_list coded_ℕ))))))
+    (λ t. (t.blocks, (t.holds, (t.shades, (t.order, (t.began, t.room))))))
+    (λ p. record { blocks = p.0; holds = p.1.0; shades = p.1.1.0; order = p.1.1.1.0; began = p.1.1.1.1.0; room = p.1.1.1.1.1 }) (λ _. refl)

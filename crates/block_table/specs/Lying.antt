@@ -51,7 +51,7 @@ block_in s x k = record { layout = layout_at s x; words = words_at s x; actions 
 
 -- all that the table has of it: its shade is told by one space, and all else by another, which has no shades
 abbrev pub row_in : Space' → Space' → Spot → Kept' → Row
-row_in u s x k = record { kept = block_in u x k; holds = k.holds; shade = shade_told (byte_in s x); card = false }
+row_in u s x k = record { kept = block_in u x k; holds = k.holds; shade = shade_told (byte_in s x) }
 
 -- the same of each row
 abbrev pub rows_in : Space' → Space' → List (BlockId × Kept') → List (BlockId × Spot) → List (BlockId × Row)
@@ -104,7 +104,6 @@ pub record HasOneLess (t : Table) (id : BlockId) (new : Table) : Type 0 where
   pub blocks : new.blocks ≡ remove t.blocks id
   pub holds : new.holds ≡ remove t.holds id
   pub shades : new.shades ≡ remove t.shades id
-  pub cards : new.cards ≡ remove t.cards id
   pub room : new.room ≡ t.room
 
 -- these blocks have gone
@@ -112,5 +111,4 @@ pub record HasLess (t : Table) (ids : List BlockId) (new : Table) : Type 0 where
   pub blocks : new.blocks ≡ without t.blocks ids
   pub holds : new.holds ≡ without t.holds ids
   pub shades : new.shades ≡ without t.shades ids
-  pub cards : new.cards ≡ without t.cards ids
   pub room : new.room ≡ t.room

@@ -30,13 +30,11 @@ newly layout words actions = record { layout = layout; words = words; actions = 
 abbrev pub older : HeapBlock → HeapBlock
 older k = record k { age = min (k.age + 1) 3 }
 
--- an escaped block, who holds it, and what a collection notes of it
+-- an escaped block, who holds it, and the shade that a collection gave it
 pub record Row : Type 0 where
   pub kept : HeapBlock
   pub holds : Holds
   pub shade : Shade
-  -- it is remembered as one that may refer to younger blocks
-  pub card : Bool
 
 -- the same after one Reclaim more
 abbrev pub older_row : Row → Row

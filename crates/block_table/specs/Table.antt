@@ -1,5 +1,5 @@
 -- The table of the escaped blocks
-use Rattle.std.specs.Prelude.{◌≡◌, ◌↔◌, zero, suc, ◌<◌, ◌≤◌, ◌^◌, ℕ, ◌+◌, ◌*◌, nat_lt, Bool, false, not, List, [], ◌∷◌, ◌++◌, map, length, drop, unwrap_or, is_some, IsSome, IsTrue, IsFalse}
+use Rattle.std.specs.Prelude.{◌≡◌, ◌↔◌, ◌<◌, ◌≤◌, ◌^◌, ℕ, ◌+◌, ◌*◌, nat_lt, Bool, false, not, List, [], ◌∷◌, ◌++◌, map, length, drop, unwrap_or, is_some, IsSome, IsTrue, IsFalse}
 use Rattle.std.specs.Option.{option_map_or}
 use Rattle.std.specs.FinMap.{FinMap, from_entries, get, insert, remove, retain_keys, empty}
 use Rattle.std.specs.Map.{keys_of}
@@ -19,9 +19,8 @@ pub record Table : Type 0 where
   pub blocks : FinMap id_cmp HeapBlock
   -- of each block, which threads hold it and how often
   pub holds : FinMap id_cmp Holds
-  -- what a collection notes of each block: its shade, and whether it is remembered
+  -- of each block, the shade that a collection gave it
   pub shades : FinMap id_cmp Shade
-  pub cards : FinMap id_cmp Bool
   -- the blocks by position, and how many of them were there as the last cycle began
   pub order : List BlockId
   pub began : ℕ
@@ -38,7 +37,6 @@ table_of es began room = record {
   blocks = each_of (λ r. r.kept) es;
   holds = each_of (λ r. r.holds) es;
   shades = each_of (λ r. r.shade) es;
-  cards = each_of (λ r. r.card) es;
   order = keys_of es;
   began = began;
   room = room;
@@ -46,7 +44,7 @@ table_of es began room = record {
 
 -- no block, and room for none
 abbrev pub no_blocks : Table
-no_blocks = record { blocks = empty; holds = empty; shades = empty; cards = empty; order = []; began = 0; room = [] }
+no_blocks = record { blocks = empty; holds = empty; shades = empty; order = []; began = 0; room = [] }
 
 -- what holds of every table: each block has one position, and whatever is kept beside the blocks is kept of each of them
 pub record IsTable (t : Table) : Type 0 where
@@ -54,7 +52,6 @@ pub record IsTable (t : Table) : Type 0 where
   pub order : (b : BlockId) → Has t.order b ↔ IsSome (get t.blocks b)
   pub holds : (b : BlockId) → is_some (get t.holds b) ≡ is_some (get t.blocks b)
   pub shades : (b : BlockId) → is_some (get t.shades b) ≡ is_some (get t.blocks b)
-  pub cards : (b : BlockId) → is_some (get t.cards b) ≡ is_some (get t.blocks b)
   pub began : t.began ≤ length t.order
   pub few : length t.order + length t.room < 2 ^ 32
 
@@ -82,17 +79,12 @@ is_held_in holds id = option_map_or is_held_by (get holds id) false
 abbrev pub shades_in : FinMap id_cmp Shade → Shades
 shades_in shades id = unwrap_or (get shades id) shade.White
 
--- the block is there, and remembered
-abbrev pub card_in : FinMap id_cmp Bool → BlockId → Bool
-card_in cards id = unwrap_or (get cards id) false
-
--- a block more, which comes last, is black and not remembered, and takes the next room
+-- a block more, which comes last, is black, and takes the next room
 abbrev pub with_block : Table → BlockId → HeapBlock → Holds → Table
 with_block t id k m = record {
   blocks = insert t.blocks id k;
   holds = insert t.holds id m;
   shades = insert t.shades id shade.Black;
-  cards = insert t.cards id false;
   order = t.order ++ id ∷ [];
   began = t.began;
   room = drop 1 t.room;
@@ -107,7 +99,6 @@ pub record AreRemoved (old : Table) (ids : List BlockId) (new : Table) : Type 0 
   pub blocks : new.blocks ≡ without old.blocks ids
   pub holds : new.holds ≡ without old.holds ids
   pub shades : new.shades ≡ without old.shades ids
-  pub cards : new.cards ≡ without old.cards ids
   pub began : new.began ≡ length new.order
   pub room : new.room ≡ []
 
@@ -116,25 +107,12 @@ pub record IsRemoved (old : Table) (id : BlockId) (new : Table) : Type 0 where
   pub blocks : new.blocks ≡ remove old.blocks id
   pub holds : new.holds ≡ remove old.holds id
   pub shades : new.shades ≡ remove old.shades id
-  pub cards : new.cards ≡ remove old.cards id
   pub began : new.began ≡ old.began
   pub room : new.room ≡ old.room
 
 -- each entry is older by one Reclaim
 abbrev pub aged : List (BlockId × Row) → List (BlockId × Row)
 aged es = map (λ (e : BlockId × Row). let r : BlockId × Row = (e.0, older_row e.1) in r) es
-
--- the entry at a place, if there is one, is older by one Reclaim
-abbrev pub aged_at : List (BlockId × Row) → ℕ → List (BlockId × Row)
-aged_at [] n = []
-aged_at (e ∷ es) zero = (e.0, older_row e.1) ∷ es
-aged_at (e ∷ es) (suc n) = e ∷ aged_at es n
-
--- the first n entries are older by one Reclaim
-abbrev pub aged_to : List (BlockId × Row) → ℕ → List (BlockId × Row)
-aged_to [] n = []
-aged_to (e ∷ es) zero = e ∷ es
-aged_to (e ∷ es) (suc n) = (e.0, older_row e.1) ∷ aged_to es n
 
 -- no word of a block that isn't one of these refers to one of them
 abbrev pub AreApart : FinMap id_cmp HeapBlock → List BlockId → Type 0

@@ -5,8 +5,8 @@
 //! that comes in stands last. `begin` notes how many there are; from then on the first so many are those of the cycle.
 //!
 //! Of each block there are its layout, words and actions, its age and whether its finaliser has run; which threads hold
-//! it, and how often; and two notes of a collection, a shade and whether the block is remembered. A block comes in black:
-//! whatever is white was there at the last `begin`.
+//! it, and how often; and the shade that a collection gave it. A block comes in black: whatever is white was there at the
+//! last `begin`.
 //!
 //! A collection marks over the table as a graph, whose edges lead along words. `scan` makes a block black and visits all to
 //! which its words refer in one call, `visit` one block.

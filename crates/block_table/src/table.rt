@@ -302,8 +302,8 @@ impl BlockTable {
         }
     }
 
-    /// A block comes in, last of all: black, of age 0, not finalised, not remembered, and held once by the thread, if
-    /// there is one. It takes no memory.
+    /// A block comes in, last of all: black, of age 0, not finalised, and held once by the thread, if there is one. It
+    /// takes no memory.
     pub fn insert(
         &mut self,
         id: BlockId,

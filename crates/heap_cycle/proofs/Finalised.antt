@@ -186,7 +186,6 @@ module _ (old new : Tables) (p q : Passing) (b : BlockId)
         blocks = blocks_are i;
         holds = (rest i).blocks.holds;
         shades = (rest i).blocks.shades;
-        cards = (rest i).blocks.cards;
         order = (rest i).blocks.order;
         began = (rest i).blocks.began;
         room = (rest i).blocks.room;

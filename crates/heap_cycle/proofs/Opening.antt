@@ -86,9 +86,6 @@ module _ (old new : Tables) (b : Table) (mode : Mode) (owner left n : ℕ) (list
     lent = λ k room at. let r = lent k room at in (r.0, within room.spare r.1);
   })
 
-none_some : {X : Type 0} {Q : Type 0} (x : X) → None ≡ Some x → Q
-none_some x e = cc
-
 some_same : {X : Type 0} (x y : X) → Some x ≡ Some y → x ≡ y
 some_same x y e = cc
 
@@ -117,7 +114,3 @@ module _ (old new : Tables) (mode : Mode) (o : OpenCycle) (keeps : KeepsCards ol
     open_cycle = λ c e. subst (λ (x : OpenCycle). KeepsPhase new x x.phase) (some_same o c e) is.marks;
     lent = λ c n room e at. is.lent n room (ap (λ (x : OpenCycle). slice_get x.lent.items n) (some_same o c e) ∙ at);
   }
-
--- without a cycle, only that all blocks began is new
-pub begun_alone : (t : Tables) → Collects t None → Collects (at_begin t) None
-begun_alone t k = record { cards = cards_begun t k.cards; old = k.old; open_cycle = λ c e. none_some c e; lent = λ c n room e. none_some c e }

@@ -1,5 +1,5 @@
 -- The tables' graph and a state for which they stand
-use Rattle.std.proofs.Common.{◌≡◌, ℕ, zero, suc, ◌<◌, nat_lt, min, Bool, true, false, cond, List, [], ◌∷◌, Option, Some, None, map, is_some, slice_get, unwrap_or, get_or, option_and_then, IfSome, ◌||◌, take, length, refl, sym, ap, ◌∙◌, subst, ◌⊎◌, inl, inr, IsTrue, IsSome, arith, ◌-◌}
+use Rattle.std.proofs.Common.{◌≡◌, ℕ, zero, suc, ◌<◌, nat_lt, min, Bool, true, false, cond, List, [], ◌∷◌, Option, Some, None, map, is_some, slice_get, unwrap_or, get_or, option_and_then, IfSome, ◌||◌, take, refl, sym, ap, ◌∙◌, subst, ◌⊎◌, inl, inr, IsTrue, IsSome, arith, ◌-◌}
 use Rattle.std.proofs.lemmas.Bool.Decides.{nat_tests}
 use Rattle.std.proofs.lemmas.Option.{get_or_from_slice_get}
 use Rattle.std.specs.Cmp.{nat_cmp_total}
@@ -107,11 +107,6 @@ front_in [] (suc m) b h = h
 front_in (x ∷ xs) zero b h = absurd h
 front_in (x ∷ xs) (suc m) b (inl e) = inl e
 front_in (x ∷ xs) (suc m) b (inr h) = inr (front_in xs m b h)
-
-within : {X : Type 0} (xs : List X) (i : ℕ) (x : X) → slice_get xs i ≡ Some x → i < length xs
-within [] i x e = cc
-within (y ∷ xs) zero x e = omega arith
-within (y ∷ xs) (suc i) x e = let r = within xs i x e in omega (arith, r)
 
 module _ (assocs : FinMap pair_cmp BlockId) (a : BlockId) where
   mine : BlockId × ℕ → Bool

@@ -9,17 +9,15 @@ use Rattle.az_base.specs.Ids.{same_id, among}
 use Rattle.az_base.proofs.Ids.{same_is}
 use Rattle.quantum_space.specs.declared.shade.Shade.TheVariants as shade
 use Rattle.gen_marker.specs.Marking.{is_white}
-use Rattle.zone_model.specs.declared.entry.Reply.{Reply}
-use Rattle.zone_model.specs.declared.entry.Reply.TheVariants as reply
 use Rattle.zone_model.specs.Collection.{WasAnchored, HasCondemned}
-use Rattle.zone_model.specs.Phases.{Free, Marking, left_in, left_among}
+use Rattle.zone_model.specs.Phases.{Free, Marking}
 use Rattle.zone_model.specs.Reach.{AnchoredFor}
 use Rattle.zone_model.specs.State.{State, Cycle, Moment, moment}
 use Rattle.zone_model.specs.Step.{with_moment, seen_now}
 use Rattle.zone_model.proofs.Anchoring.{held_anchored}
 use Rattle.zone_model.proofs.Moments.{sees, seeing, was_more, was_now}
-use Rattle.heap_cycle.specs.Collector.{Collecting, Collector, shade_in, no_collector}
-use Rattle.shared_heap.specs.Cycles.{AfterBarrier, IsOpenOf, IsMarking, IsSettling}
+use Rattle.heap_cycle.specs.Collector.{Collecting, Collector, shade_in}
+use Rattle.shared_heap.specs.Cycles.{IsOpenOf, IsMarking, IsSettling}
 use Rattle.heap_cycle.specs.Livening.{Livens, enlivened, of_option, blocks_in, unshaded}
 use Rattle.shared_heap.specs.Shared.{Shared, with_gc}
 use Rattle.shared_heap.specs.Stands.{Stands, StandsCycle, SameCycle}
@@ -158,17 +156,6 @@ word_of (word.Block q ∷ ws) b h = elim (either (same_id b q) (among (blocks_in
 word_of (word.Null ∷ ws) b h = let w = word_of ws b h in (suc w.0, w.1)
 word_of (word.Number n ∷ ws) b h = let w = word_of ws b h in (suc w.0, w.1)
 
--- a heap that shows no collection enlivens nothing
-pub none_livens : (live carded : List BlockId) → Livens no_collector no_collector live carded
-none_livens live carded = record { cycle = refl; shades = λ f g e. none_some f e; cards = λ b h. h; fewer = λ b h. inl h }
-
-pub none_barrier : (old new : Collector) (r : Reply) (live carded : List BlockId) → old ≡ no_collector → new ≡ no_collector → AfterBarrier old new r live carded
-none_barrier old new r live carded e f = rw (e, f) (by r)
-  where
-    by : (r : Reply) → AfterBarrier no_collector no_collector r live carded
-    by (reply.Misuse m) = refl
-    by _ = none_livens live carded
-
 -- a heap that is known whole is known but for its collections
 pub with_own_gc : (new k : Shared) → new ≡ k → new ≡ with_gc k new.gc
 with_own_gc new k e = subst (λ k. new ≡ with_gc k new.gc) e refl
@@ -179,14 +166,6 @@ condemned_same None None s = refl
 condemned_same None (Some c) s = absurd s
 condemned_same (Some g) None s = absurd s
 condemned_same (Some g) (Some c) s = s.condemned
-
--- whose the cycle is, and whether it is condemned
-pub told_same : (g : Option Collecting) (c : Option Cycle) → SameCycle g c
-    → option_map (λ (g : Collecting). let p : ℕ × Bool = (g.owner, is_some g.condemned) in p) g ≡ option_map (λ (c : Cycle). let p : ℕ × Bool = (c.owner, is_some c.condemned) in p) c
-told_same None None s = refl
-told_same None (Some c) s = absurd s
-told_same (Some g) None s = absurd s
-told_same (Some g) (Some c) s = rw (s.owner, s.condemned) refl
 
 -- where the heap has no cycle, the state has none
 pub none_open : (c : Option Cycle) → SameCycle None c → c ≡ None
@@ -218,10 +197,3 @@ marking_of h z t s m = let f = heap_cycle h.gc.cycle m.0 z.cycle s.cycle m.1.0 i
 
 pub settling_of : (h : Shared) (z : State) (t : ℕ) (r : List BlockId) → Stands h z → HasCondemned z t r → IsSettling h t
 settling_of h z t r s m = let f = heap_cycle h.gc.cycle m.0 z.cycle s.cycle m.1.0 in (f.0, r, (f.1, sym f.2.owner ∙ m.1.1), sym f.2.condemned ∙ m.2)
-
--- a state without a condemned cycle has nothing left to finalise
-pub none_left : (z : State) → z.cycle ≡ None → left_in z ≡ 0
-none_left z e = ap (λ o. left_among z (condemned_set o)) e
-  where
-    condemned_set : Option Cycle → Option (List BlockId)
-    condemned_set o = option_and_then (λ (c : Cycle). c.condemned) o

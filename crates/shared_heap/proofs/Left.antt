@@ -1,20 +1,19 @@
 -- How many finalisers a cycle has to run
-use Rattle.std.proofs.Common.{◌≡◌, ◌+◌, ◌≤◌, ◌&&◌, ◌||◌, ℕ, Bool, true, false, not, cond, List, [], ◌∷◌, Option, Some, None, IsSome, IsTrue, length, filter, count_by, refl, sym, ap, subst, ◌∙◌, arith}
+use Rattle.std.proofs.Common.{◌≡◌, ◌+◌, ◌&&◌, ◌||◌, ℕ, Bool, true, false, not, cond, List, [], ◌∷◌, Option, Some, None, IsSome, IsTrue, length, filter, count_by, refl, sym, ap, subst, ◌∙◌, arith}
 use Rattle.std.specs.Option.{option_map_or, option_and_then}
 use Rattle.std.specs.FinMap.{get}
 use Rattle.az_base.specs.declared.block_id.BlockId.{BlockId}
 use Rattle.az_base.specs.Ids.{among, same_id}
 use Rattle.az_base.proofs.Ids.{same_self}
-use Rattle.quantum_space.specs.Shapes.{Has, Once}
 use Rattle.zone_model.specs.Collection.{awaits}
 use Rattle.zone_model.specs.Phases.{left_in, left_among}
 use Rattle.zone_model.specs.State.{State, Block, Cycle, is_nil}
 use Rattle.heap_cycle.specs.Collector.{Collecting}
 use Rattle.shared_heap.specs.Shared.{Shared}
-use Rattle.heap_cycle.specs.Waiting.{awaits_in, unfinalised_by, waits}
+use Rattle.heap_cycle.specs.Waiting.{awaits_in, waits}
 use Rattle.heap_tables.specs.Standing.{kept_of, escaped_view}
 use Rattle.shared_heap.specs.Stands.{Stands}
-use Rattle.heap_cycle.proofs.Counting.{count_more, no_more_listed}
+use Rattle.heap_cycle.proofs.Counting.{count_more}
 use Rattle.shared_heap.proofs.Collecting.{state_cycle}
 
 -- of a block of the heap the state says the same
@@ -50,7 +49,3 @@ left_same h z g r s is condemned there =
   where
     condemned_set : Option Cycle → Option (List BlockId)
     condemned_set o = option_and_then (λ (c : Cycle). c.condemned) o
-
--- so no more blocks of a start wait for their finaliser than of the heap
-pub waiting_listed : (h : Shared) (xs : List BlockId) → Once xs → ((b : BlockId) → Has xs b → IsSome (get h.blocks b)) → count_by (awaits_in h.blocks) xs ≤ unfinalised_by h.blocks
-waiting_listed h xs once here = no_more_listed waits h.blocks xs once here

@@ -1,5 +1,5 @@
 -- A cycle that opens over the tables of a heap opens for the states that it serves
-use Rattle.std.proofs.Common.{◌≡◌, ◌≢◌, ◌++◌, nat_lt, true, false, not, List, [], ◌∷◌, Option, Some, None, IsSome, IsTrue, is_some, option_map, length, drop, refl, sym, ap, subst, ◌∙◌, ◌⊎◌, inl, inr, ◌+◌, ◌-◌, ◌==◌, ℕ, min, cond, arith}
+use Rattle.std.proofs.Common.{◌≡◌, ◌≢◌, ◌++◌, nat_lt, true, false, not, List, [], ◌∷◌, Option, Some, None, IsSome, IsTrue, is_some, option_map, length, drop, refl, sym, ap, subst, ◌∙◌, ◌⊎◌, inl, inr, ◌-◌, ◌==◌, ℕ, min, cond, arith}
 use Rattle.std.proofs.Math.Seq.{drop-length}
 use Rattle.std.specs.Option.{option_map_or, option_and_then}
 use Rattle.std.specs.FinMap.{get, FinMap}
@@ -29,7 +29,7 @@ use Rattle.heap_tables.specs.Standing.{AreTables, escaped_view, kept_of}
 use Rattle.heap_tables.specs.Unshaded.{unshaded}
 use Rattle.heap_cycle.specs.Collector.{Collecting, Collector, shade_in}
 use Rattle.heap_cycle.specs.Phases.{IsOpened, at_begin}
-use Rattle.shared_heap.specs.Cycles.{IsOpenOf, Opens}
+use Rattle.shared_heap.specs.Cycles.{Opens}
 use Rattle.shared_heap.specs.Holding.{Serves}
 use Rattle.shared_heap.specs.Ready.{Ready}
 use Rattle.shared_heap.specs.Shared.{Shared, with_gc}

@@ -36,11 +36,6 @@ use Rattle.shared_heap.proofs.Standing.{seen_stands, register_stands}
 use Rattle.shared_heap.proofs.Stepping.{misused, none_escape}
 use Rattle.shared_heap.proofs.Sums.{not_full}
 
--- the table and the state have a count in the same way
-pub same_count : (m : FinMap id_cmp ℕ) (id : BlockId) (n : ℕ) → with_count m id n ≡ with_value m id (positive_count n)
-same_count m id zero = refl
-same_count m id (suc n) = refl
-
 -- no count is above the limit
 abbrev pub IsBelow : FinMap id_cmp ℕ → ℕ → Type 0
 IsBelow m limit = (q : BlockId) → unwrap_or (get m q) 0 ≤ limit

@@ -1,5 +1,5 @@
 -- What a finaliser and a Reclaim over the tables are to the states that the heap serves
-use Rattle.std.proofs.Common.{◌≡◌, ◌+◌, ◌-◌, ℕ, true, not, map, Option, None, Some, List, [], IsSome, IsTrue, is_some, cond, count_by, filter, find, fold, length, slice_get, option_map, refl, sym, ap, ◌∙◌, inl, inr}
+use Rattle.std.proofs.Common.{◌≡◌, ◌+◌, ◌-◌, ℕ, true, not, map, Option, None, Some, List, [], IsSome, IsTrue, is_some, cond, count_by, filter, find, fold, length, slice_get, refl, sym, ap, ◌∙◌, inl, inr}
 use Rattle.std.specs.Option.{option_map_or}
 use Rattle.std.specs.FinMap.{FinMap, empty, get, retain_keys}
 use Rattle.az_base.specs.declared.block_id.BlockId.{BlockId}
@@ -39,7 +39,7 @@ use Rattle.heap_cycle.specs.declared.open_cycle.Phase.TheVariants as phase
 use Rattle.shared_heap.specs.Cycles.{HeapEdge, IsNext, IsSettling, Reclaimed, RefersToNewer, finalised}
 use Rattle.shared_heap.specs.Holding.{Serves}
 use Rattle.shared_heap.specs.Ready.{Ready}
-use Rattle.shared_heap.specs.Shared.{Shared, finalisers_left}
+use Rattle.shared_heap.specs.Shared.{finalisers_left}
 use Rattle.shared_heap.specs.Stands.{Stands}
 use Rattle.shared_heap.proofs.Collecting.{state_cycle}
 use Rattle.shared_heap.proofs.Finalising.{awaits_same, finds_same, found_here}
@@ -47,14 +47,6 @@ use Rattle.shared_heap.proofs.Left.{left_same}
 use Rattle.shared_heap.proofs.Opened.{seen_with}
 use Rattle.shared_heap.proofs.Remaining.{finalised_used, gone_done, none_waits, one_finalised}
 use Rattle.shared_heap.proofs.Served.{seen_over, shown_to}
-
--- the cycle that is seen is the one that is open
-pub open_of : (t : Tables) (o : Option OpenCycle) (g : Collecting) → option_map (collecting t) o ≡ Some g → (c : OpenCycle) × (o ≡ Some c) × (collecting t c ≡ g)
-open_of t None g e = cc (e)
-open_of t (Some c) g e = (c, refl, same (collecting t c) g e)
-  where
-    same : (x y : Collecting) → Some x ≡ Some y → x ≡ y
-    same x y e = cc
 
 -- once blocks are condemned no shades are shown
 settled_shades : (t : Tables) (p : Phase) (r : List BlockId) → condemned_at p ≡ Some r → shades_at t p ≡ empty

@@ -1,14 +1,13 @@
 -- What isn't white was anchored, told by the shades that the heap shows and by those of its tables
-use Rattle.std.proofs.Common.{◌≡◌, ◌≢◌, ◌+◌, ℕ, Bool, true, false, List, Option, None, Some, IsTrue, length, unwrap_or, refl, sym, ap, subst, ◌∙◌, arith}
+use Rattle.std.proofs.Common.{◌≡◌, ◌≢◌, ◌+◌, ℕ, Bool, true, false, List, Option, None, Some, IsTrue, length, refl, sym, ap, subst, ◌∙◌, arith}
 use Rattle.std.specs.Option.{option_map_or}
-use Rattle.std.specs.FinMap.{FinMap, get, retain_keys}
+use Rattle.std.specs.FinMap.{FinMap}
 use Rattle.az_base.specs.declared.block_id.BlockId.{BlockId}
 use Rattle.az_base.specs.declared.options.Options.{Options}
 use Rattle.az_base.specs.Ids.{among}
 use Rattle.az_base.specs.Places.{loc_cmp}
 use Rattle.quantum_space.specs.declared.shade.Shade.TheVariants as shade
 use Rattle.quantum_space.proofs.Lists.{among_has, has_among}
-use Rattle.gen_marker.specs.Closure.{OfDark}
 use Rattle.gen_marker.specs.Marking.{Spreads, blacks}
 use Rattle.zone_model.specs.Collection.{WasAnchored}
 use Rattle.zone_model.specs.Reached.{KeepsReached}
@@ -24,9 +23,9 @@ use Rattle.heap_cycle.specs.Phases.{IsSliced}
 use Rattle.shared_heap.specs.Cycles.{Darkens, IsMarking, marked_by}
 use Rattle.shared_heap.specs.Holding.{Serves}
 use Rattle.shared_heap.specs.Shared.{Shared, with_gc}
-use Rattle.shared_heap.specs.Stands.{SameCycle, Stands, StandsCycle}
+use Rattle.shared_heap.specs.Stands.{Stands, StandsCycle}
 use Rattle.heap_cycle.specs.declared.open_cycle.OpenCycle.{OpenCycle}
-use Rattle.heap_cycle.proofs.Slicing.{blacks_shown, marking_past, marking_shade, shown_shade}
+use Rattle.heap_cycle.proofs.Slicing.{blacks_shown, marking_past, marking_shade}
 use Rattle.shared_heap.proofs.CycleSteps.{slice_stands}
 use Rattle.shared_heap.proofs.Opened.{seen_with}
 use Rattle.shared_heap.proofs.Served.{shown_to}
@@ -45,13 +44,6 @@ black_of t o fresh = ap (λ (c : Option (List BlockId)). option_map_or (λ r. 0)
 -- the graph has the blocks of the state's start
 pub starts : (t : Tables) (c : Cycle) → ((b : BlockId) → c.start b ≡ among (start_of t) b) → HasStart c (graph_of t)
 starts t c same = record { start = λ b. (λ i. among_has (start_of t) b (sym (same b) ∙ i), λ h. same b ∙ has_among (start_of t) b h) }
-
--- so one is dark as the other is
-pub dark_in : (t : Tables) (c : Cycle) → ((b : BlockId) → IsTrue (among (start_of t) b) → unwrap_or (get (retain_keys t.blocks.shades (among (start_of t))) b) shade.White ≢ shade.White → WasAnchored c b) → OfDark (graph_of t) (shades_of t) (WasAnchored c)
-dark_in t c dark b h d = let i = has_among (start_of t) b h in dark b i (λ w. d (sym (shown_shade t b i) ∙ w))
-
-pub dark_out : (t : Tables) (c : Cycle) → OfDark (graph_of t) (shades_of t) (WasAnchored c) → (b : BlockId) → IsTrue (among (start_of t) b) → unwrap_or (get (retain_keys t.blocks.shades (among (start_of t))) b) shade.White ≢ shade.White → WasAnchored c b
-dark_out t c dark b i d = dark b (among_has (start_of t) b i) (λ w. d (shown_shade t b i ∙ w))
 
 -- an open cycle that marks on over the tables
 module _ (old new : Tables) (before after : OpenCycle) (fresh : condemned_at before.phase ≡ None) (is : IsSliced old new before after) where

@@ -18,7 +18,6 @@ use Rattle.block_table.specs.Table.{IsTable, Table, used_by, with_block}
 use Rattle.heap_tables.specs.Unshaded.{unshaded, unshaded_table}
 use Rattle.heap_tables.specs.declared.tables.Tables.{Tables}
 use Rattle.heap_cycle.specs.Barriers.{IsLive, IsWatched, OnlyNotes}
-use Rattle.heap_cycle.specs.Changes.{written}
 use Rattle.heap_cycle.specs.Collector.{Collector}
 use Rattle.heap_cycle.specs.Collects.{Collects, collector_of}
 use Rattle.heap_cycle.specs.Waiting.{unfinalised_by, waits}

@@ -1,15 +1,13 @@
 use Rattle.std.proofs.Common.{◌≡◌, ◌+◌, ◌≤◌, ◌<◌, ◌∙◌, ap, refl, sym, subst, arith, cond, ℕ, Bool, true, false, List, Some, None, map, [], ◌∷◌, length}
-use Rattle.std.specs.FinMap.{FinMap, get}
+use Rattle.std.specs.FinMap.{get}
 use Rattle.az_base.specs.declared.action.Action.{Action}
 use Rattle.az_base.specs.declared.word.Word.{Word}
-use Rattle.az_base.specs.Ids.{id_cmp}
 use Rattle.block_layouts.specs.declared.layout.Layout.{Layout}
 use Rattle.block_layouts.specs.Layouts.{first_words, quanta, len_of}
 use Rattle.zone_model.specs.State.{is_nil}
 use Rattle.block_table.specs.Holds.{held_once}
-use Rattle.block_table.specs.Stored.{HeapBlock, newly}
+use Rattle.block_table.specs.Stored.{newly}
 use Rattle.block_table.specs.Table.{Table, used_by}
-use Rattle.heap_cycle.specs.Barriers.{IsLive}
 use Rattle.heap_cycle.specs.Waiting.{unfinalised_by, waits}
 use Rattle.shared_heap.specs.Shared.{Shared, with_gc}
 use Rattle.shared_heap.specs.contracts.heap.Heap.{the_view}

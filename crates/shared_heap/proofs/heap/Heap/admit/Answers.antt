@@ -3,7 +3,7 @@ use Rattle.std.specs.FinMap.{empty, get}
 use Rattle.az_base.specs.declared.action.Action.{Action}
 use Rattle.block_layouts.specs.Layouts.{quanta, len_of}
 use Rattle.block_table.specs.Stored.{newly}
-use Rattle.block_table.specs.Table.{IsTable, Table, used_by}
+use Rattle.block_table.specs.Table.{Table, used_by}
 use Rattle.heap_tables.specs.declared.tables.Tables.{Tables}
 use Rattle.heap_cycle.specs.Collects.{collector_of}
 use Rattle.heap_cycle.specs.Livening.{Livens, blocks_in}

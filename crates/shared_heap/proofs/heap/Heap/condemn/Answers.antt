@@ -1,13 +1,10 @@
-use Rattle.std.proofs.Common.{◌≡◌, ◌∙◌, Some, ap, refl, subst, sym, not}
+use Rattle.std.proofs.Common.{◌≡◌, ◌∙◌, Some, ap, subst, sym, not}
 use Rattle.std.specs.FinMap.{get, retain_keys}
-use Rattle.zone_model.specs.declared.call.Call.TheVariants as call
-use Rattle.zone_model.specs.declared.entry.Reply.TheVariants as reply
 use Rattle.zone_model.specs.Collection.{shows_one}
 use Rattle.heap_cycle.specs.Collects.{Collects, collector_of}
 use Rattle.shared_heap.specs.Cycles.{Condemned}
 use Rattle.shared_heap.specs.Holding.{Serves}
 use Rattle.shared_heap.specs.Shared.{Shared}
-use Rattle.shared_heap.specs.Steps.{Stepped}
 use Rattle.shared_heap.proofs.CondemnedHeap.{condemns, may_condemn}
 use Rattle.shared_heap.proofs.CycleSteps.{condemn_step}
 use Rattle.shared_heap.proofs.Opened.{seen_with}

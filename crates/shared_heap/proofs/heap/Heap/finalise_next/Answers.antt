@@ -1,12 +1,10 @@
-use Rattle.std.proofs.Common.{◌≡◌, ◌+◌, ◌∙◌, Some, ap, refl, subst, sym, arith, unwrap_or}
+use Rattle.std.proofs.Common.{◌≡◌, ◌∙◌, Some, ap, subst, sym, arith, unwrap_or}
 use Rattle.std.specs.FinMap.{get}
 use Rattle.zone_model.specs.declared.call.Call.TheVariants as call
 use Rattle.zone_model.specs.declared.entry.Reply.TheVariants as reply
-use Rattle.block_table.specs.Table.{used_by}
 use Rattle.heap_tables.specs.declared.tables.Tables.{Tables}
 use Rattle.heap_cycle.specs.Collects.{collector_of}
-use Rattle.heap_cycle.specs.Waiting.{unfinalised_by}
-use Rattle.shared_heap.specs.Cycles.{AfterFinalise, IsNext, finalised}
+use Rattle.shared_heap.specs.Cycles.{IsNext, finalised}
 use Rattle.shared_heap.specs.Shared.{Shared}
 use Rattle.shared_heap.specs.Steps.{Stepped}
 use Rattle.shared_heap.proofs.Finalising.{finalise_step}

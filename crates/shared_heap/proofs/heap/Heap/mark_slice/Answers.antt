@@ -1,14 +1,13 @@
-use Rattle.std.proofs.Common.{◌≡◌, ◌+◌, ◌∙◌, Some, ap, refl, subst, sym, None}
+use Rattle.std.proofs.Common.{◌≡◌, ◌+◌, ◌∙◌, Some, ap, subst, sym}
 use Rattle.gen_marker.specs.Marking.{blacks}
 use Rattle.gen_marker.specs.Progress.{Ends}
 use Rattle.heap_tables.specs.Graphs.{shades_of}
 use Rattle.heap_cycle.specs.Collector.{Collector, shade_in}
-use Rattle.heap_cycle.specs.Collects.{collecting, collector_of, condemned_at, start_of}
+use Rattle.heap_cycle.specs.Collects.{collector_of, start_of}
 use Rattle.heap_cycle.proofs.Slicing.{ends_shown}
-use Rattle.shared_heap.specs.Cycles.{Darkens, IsMarking, black_in, marked_by}
+use Rattle.shared_heap.specs.Cycles.{Darkens, marked_by}
 use Rattle.shared_heap.specs.Holding.{Serves}
 use Rattle.shared_heap.specs.Shared.{Shared}
-use Rattle.shared_heap.specs.Stands.{Stands}
 use Rattle.shared_heap.proofs.Opened.{seen_with}
 use Rattle.shared_heap.proofs.Sliced.{darkens, fresh_of, sliced_stands, sliced_ticks}
 use Rattle.shared_heap.proofs.heap.Heap.mark_slice.Goals as goal

@@ -1,4 +1,4 @@
-use Rattle.std.proofs.Common.{◌≡◌, ◌∙◌, ap, refl, sym, subst, Some, IfSome, IsSome}
+use Rattle.std.proofs.Common.{◌∙◌, ap, refl, sym, subst, Some, IfSome, IsSome}
 use Rattle.std.specs.FinMap.{get}
 use Rattle.az_base.specs.declared.word.Word.TheVariants as word
 use Rattle.quantum_space.specs.Shapes.{Has}

@@ -1,11 +1,11 @@
-use Rattle.std.proofs.Common.{◌≡◌, ◌∙◌, Some, None, ap, refl, subst, sym, arith, not, unwrap_or}
+use Rattle.std.proofs.Common.{◌≡◌, ◌∙◌, Some, None, ap, subst, sym, arith, not, unwrap_or}
 use Rattle.std.specs.FinMap.{get, retain_keys}
 use Rattle.zone_model.specs.State.{is_word_of}
 use Rattle.retain_table.specs.Counted.{Counted}
 use Rattle.heap_cycle.specs.Collects.{Collects, collector_of}
 use Rattle.shared_heap.specs.Cycles.{IsSettling, Reclaimed}
 use Rattle.shared_heap.specs.Holding.{Serves}
-use Rattle.shared_heap.specs.Shared.{Shared, finalisers_left}
+use Rattle.shared_heap.specs.Shared.{finalisers_left}
 use Rattle.shared_heap.proofs.CycleSteps.{reclaim_step}
 use Rattle.shared_heap.proofs.Opened.{seen_with}
 use Rattle.shared_heap.proofs.Remaining.{few_wait, reclaimed_used}

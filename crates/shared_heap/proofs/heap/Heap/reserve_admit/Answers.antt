@@ -1,5 +1,4 @@
-use Rattle.std.proofs.Common.{◌≡◌, ◌∙◌, ◌++◌, ap, sym, subst, [], length, arith}
-use Rattle.block_table.specs.Table.{Table}
+use Rattle.std.proofs.Common.{◌≡◌, ◌∙◌, ap, []}
 use Rattle.heap_tables.specs.declared.tables.Tables.{Tables}
 use Rattle.shared_heap.proofs.Kept.{cards_collect, heap_alike, reserved_blocks, reserved_collect}
 use Rattle.shared_heap.proofs.heap.Heap.reserve_admit.Goals as goal

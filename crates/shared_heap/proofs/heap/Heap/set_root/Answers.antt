@@ -1,6 +1,5 @@
 use Rattle.std.proofs.Common.{◌∙◌, ap, sym, subst, arith, List, Option, [], slice_set}
 use Rattle.az_base.specs.declared.block_id.BlockId.{BlockId}
-use Rattle.heap_cycle.specs.Collector.{Collector}
 use Rattle.heap_cycle.specs.Livening.{Livens, of_option}
 use Rattle.shared_heap.specs.Shared.{Shared}
 use Rattle.shared_heap.specs.contracts.heap.Heap.{the_view}

@@ -1,5 +1,4 @@
-use Rattle.std.proofs.Common.{◌≡◌, ◌∙◌, Some, ap, refl, subst, sym}
-use Rattle.zone_model.specs.Phases.{left_in}
+use Rattle.std.proofs.Common.{◌≡◌, ◌∙◌, Some, ap, subst, sym}
 use Rattle.heap_cycle.specs.Collects.{Collects, collector_of, condemned_at}
 use Rattle.shared_heap.specs.Stands.{Stands}
 use Rattle.shared_heap.proofs.Opened.{seen_with}
