@@ -1,14 +1,15 @@
 #!/usr/bin/env python3
 """Makes large inputs for the built program and times it on them.
 
-bench/bench.py [NAME..] runs the named cases, or all. It wants the program at crates/autozone/out/autozone, which
-./autozone builds, and prints a row for each case: the input's bytes and lines, the least time of five runs, and the
-most memory that a run took."""
+bench/bench.py [NAME..] runs the named cases, or all, `soak` among them, whose script the program makes itself. It wants
+the program at crates/autozone/out/autozone, which ./autozone builds, and prints a row for each case: the input's bytes and
+lines, the least processor time of five runs, and the most memory that a run took. With --count before the names it prints
+how many instructions the whole program takes, in all and a line, as valgrind counts them."""
 import os
+import re
 import subprocess
 import sys
 import tempfile
-import time
 
 TOP = os.path.dirname(os.path.dirname(os.path.abspath(__file__)))
 PROGRAM = os.path.join(TOP, "crates", "autozone", "out", "autozone")
@@ -193,32 +194,44 @@ CASES = {
 }
 
 
-def run(script):
-    """The least time of five runs in seconds, and the most memory in megabytes."""
+def run(words, given):
+    """The least processor time of five runs in seconds, and the most memory in megabytes."""
     times = []
     memory = 0
-    with tempfile.NamedTemporaryFile("w") as given:
-        given.write(script)
-        given.flush()
-        for _ in range(5):
-            with open(given.name) as source:
-                start = time.perf_counter()
-                child = subprocess.Popen([PROGRAM, "play"], stdin=source, stdout=subprocess.DEVNULL)
-                _, status, usage = os.wait4(child.pid, 0)
-                times.append(time.perf_counter() - start)
-                if status != 0:
-                    sys.exit(f"the program ended with status {status}")
-                memory = max(memory, usage.ru_maxrss / 1024)
-    return min(times), memory
+    for _ in range(5):
+        given.seek(0)
+        child = subprocess.Popen([PROGRAM, *words], stdin=given, stdout=subprocess.DEVNULL)
+        _, status, usage = os.wait4(child.pid, 0)
+        if status != 0:
+            sys.exit(f"the program ended with status {status}")
+        times.append(usage.ru_utime + usage.ru_stime)
+        memory = max(memory, usage.ru_maxrss / 1024)
+    return f"{min(times):10.3f}{memory:10.1f}"
+
+
+def count(words, given, lines):
+    """The instructions of a run, and those a line."""
+    given.seek(0)
+    command = ["valgrind", "--tool=callgrind", "--callgrind-out-file=/dev/null", PROGRAM, *words]
+    child = subprocess.run(command, stdin=given, stdout=subprocess.DEVNULL, stderr=subprocess.PIPE, check=True)
+    counted = int(re.search(rb"Collected : (\d+)", child.stderr).group(1))
+    return f"{counted:16,}{counted / lines:10,.0f}"
 
 
 def main():
-    names = sys.argv[1:] or list(CASES)
-    print(f"{'case':14}{'bytes':>10}{'lines':>8}{'seconds':>10}{'most MB':>10}")
+    counts = sys.argv[1:2] == ["--count"]
+    names = sys.argv[2 if counts else 1 :] or [*CASES, "soak"]
+    print("load", os.getloadavg())
+    print(f"{'case':14}{'bytes':>10}{'lines':>8}" + (f"{'instructions':>16}{'a line':>10}" if counts else f"{'seconds':>10}{'most MB':>10}"))
     for name in names:
-        script = CASES[name]()
-        seconds, memory = run(script)
-        print(f"{name:14}{len(script):10}{script.count(chr(10)):8}{seconds:10.3f}{memory:10.1f}", flush=True)
+        words, script = (["soak", "7", str(MOST_LINES)], "") if name == "soak" else (["play"], CASES[name]())
+        lines = MOST_LINES if name == "soak" else script.count("\n")
+        with tempfile.TemporaryFile("w+") as given:
+            given.write(script)
+            given.flush()
+            row = count(words, given, lines) if counts else run(words, given)
+        print(f"{name:14}{len(script):10}{lines:8}{row}", flush=True)
+    print("load", os.getloadavg())
 
 
 if __name__ == "__main__":
