@@ -12,3 +12,5 @@ pub mod Marks
 pub mod Unmarked
 pub mod Leaving
 pub mod Written
+pub mod Sizing
+pub mod Whitening

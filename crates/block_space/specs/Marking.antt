@@ -1,5 +1,5 @@
 -- Marking over a space: shades by quantum, and visits along the words of a block
-use Rattle.std.specs.Prelude.{◌⊎◌, map, ◌≡◌, ◌≢◌, ℕ, zero, suc, ◌+◌, ◌-◌, ◌*◌, ◌/◌, ◌%◌, ◌<◌, ◌≤◌, ◌&&◌, nat_lt, Bool, true, List, [], ◌∷◌, ◌++◌, Option, Some, None, ⊤, get_or, if◌then◌else◌}
+use Rattle.std.specs.Prelude.{◌⊎◌, map, ◌≡◌, ◌≢◌, ℕ, zero, suc, ◌+◌, ◌-◌, ◌*◌, ◌/◌, ◌%◌, ◌<◌, ◌≤◌, ◌&&◌, nat_lt, Bool, true, false, List, [], ◌∷◌, ◌++◌, Option, Some, None, ⊤, get_or, if◌then◌else◌}
 use Rattle.std.specs.Option.{option_map_or}
 use Rattle.az_base.specs.declared.action.Mode.{Mode}
 use Rattle.az_base.specs.declared.action.Mode.TheVariants as mode
@@ -82,6 +82,13 @@ pub record VisitsSpot (m : Mode) (s : Space') (x : Spot) (id : BlockId) (g : Sta
   pub greyed : IsGreyed m s x is_new new
   pub puts : Puts id is_new g onto
 
+-- so it is for a block of a region
+pub record VisitsIn (m : Mode) (r : Region') (at : ℕ) (id : BlockId) (g : Stack) (new : Region') (onto : Stack) : Type 0 where
+  pub is_new : Bool
+  pub told : is_new ≡ is_white_byte m (get_or r.map.bytes at 0)
+  pub changed : new ≡ (if is_new then with_byte r at (shaded shade.Grey (get_or r.map.bytes at 0)) else r)
+  pub puts : Puts id is_new g onto
+
 -- the block was visited to which a word refers; not so where the word refers to one and doesn't know where it lies
 abbrev pub VisitsWord : Mode → PlacedWord → Space' → Stack → Space' → Stack → Type 0
 VisitsWord m word.Null s g new onto = (new ≡ s) × (onto ≡ g)
@@ -94,6 +101,30 @@ VisitsWord m (word.Number n) s g new onto = (new ≡ s) × (onto ≡ g)
 abbrev pub VisitsWords : Mode → Spot → ℕ → ℕ → Space' → Stack → Space' → Stack → Type 0
 VisitsWords m x from zero s g new onto = (new ≡ s) × (onto ≡ g)
 VisitsWords m x from (suc n) s g new onto = (mid : Space') × (on : Stack) × VisitsWords m x from n s g mid on × VisitsWord m (word_in s x (from + n)) mid on new onto
+
+-- the word knows the small quantum at which its block begins
+abbrev pub is_in_small : PlacedWord → Bool
+is_in_small word.Null = false
+is_in_small (word.Block id) = false
+is_in_small (word.InSmall id at) = true
+is_in_small (word.InMedium id at) = false
+is_in_small (word.Number n) = false
+
+-- the word knows the medium quantum at which its block begins
+abbrev pub is_in_medium : PlacedWord → Bool
+is_in_medium word.Null = false
+is_in_medium (word.Block id) = false
+is_in_medium (word.InSmall id at) = false
+is_in_medium (word.InMedium id at) = true
+is_in_medium (word.Number n) = false
+
+-- the word refers to a block and doesn't know where it lies, by a test
+abbrev pub is_lost : PlacedWord → Bool
+is_lost word.Null = false
+is_lost (word.Block id) = true
+is_lost (word.InSmall id at) = false
+is_lost (word.InMedium id at) = false
+is_lost (word.Number n) = false
 
 -- the word refers to a block and doesn't know where it lies
 abbrev pub IsLost : PlacedWord → Type 0
@@ -130,6 +161,14 @@ unmarked_region r = record { map = with_bytes r.map (map unshaded r.map.bytes); 
 -- the space without shades and without what words know of where blocks lie: what marking leaves as it is
 abbrev pub unmarked : Space' → Space'
 unmarked s = record { small = unmarked_region s.small; medium = unmarked_region s.medium; table = s.table; spare = s.spare; used = s.used }
+
+-- the same blocks, all white, and else what marking leaves as it is
+pub record AreWhite (s new : Space') : Type 0 where
+  pub layouts : (x : Spot) → layout_in new x ≡ layout_in s x
+  pub ids : (x : Spot) → id_in new x ≡ id_in s x
+  pub used : (x : Spot) → 128 ≤ byte_in s x → 128 ≤ byte_in new x
+  pub white : (x : Spot) (l : Layout) → layout_in s x ≡ Some l → shade_told (byte_in new x) ≡ shade.White
+  pub rest : unmarked new ≡ unmarked s
 
 -- the block to which a word refers
 abbrev pub ends_in : Word → List BlockId

@@ -5,10 +5,10 @@
 //! in a small subzone, one of up to 4,096 words in a medium one. It takes 1 to 32 quanta in a row, the first that are
 //! free in the first subzone of its kind that has so many, and stays there until it is freed.
 //!
-//! A `Space` has the subzones of both kinds (two `Region`s) and a `Table`, which numbers them in the order in which they
-//! were opened. A `Place` is such a number and the block's first quantum. Beside the words of each block lie its id, its
-//! layout and one byte of what the collector notes of it (`Admin`). The quanta in use (`used`) are counted as small ones:
-//! 128 words take 64.
+//! A `Space` has the subzones of both kinds (two `SizedRegion`s) and a `Table`, which numbers them in the order in which
+//! they were opened. A `Place` is such a number and the block's first quantum. Beside the words of each block lie its id,
+//! its layout, one byte of what the collector notes of it (`Admin`), and one that tells how many words it has, so that who
+//! marks need not read the layout. The quanta in use (`used`) are counted as small ones: 128 words take 64.
 //!
 //! A word that refers to a block may know where it lies (`refer`, `referent`), so that who follows references need not look
 //! ids up. The type keeps that it is right: a block with that id lies there. So a block may be freed only where no word of
@@ -28,6 +28,7 @@
 //! - all else O(1).
 #![tactic(auto)]
 
+mod sized;
 mod space;
 mod spare;
 mod table;

@@ -14,9 +14,10 @@ mod reading;
 mod room;
 mod writing;
 
+use crate::sized::SizedRegion;
 use crate::spare::Spare;
 use crate::table::{Subzone, Table};
-use quantum_space::{Kind, Place, Region, Spot};
+use quantum_space::{Kind, Place, Spot};
 use std::alloc::Global;
 use std::marker::Model;
 
@@ -36,8 +37,8 @@ const MOST_WORDS: u32 = 4096;
 /// The blocks at their places, the lengths of those for which there is room, and how many small quanta the blocks take.
 #[derive(Drop)]
 pub struct Space {
-    small: Region,
-    medium: Region,
+    small: SizedRegion,
+    medium: SizedRegion,
     table: Table,
     spare: Spare,
     used: u32,
@@ -110,8 +111,8 @@ impl Space {
         ensures used { result.used ≡ 0 }
     {
         Space {
-            small: Region::new(alloc, SMALL_QUANTA, SMALL_WORDS),
-            medium: Region::new(alloc, MEDIUM_QUANTA, MEDIUM_WORDS),
+            small: SizedRegion::new(alloc, SMALL_QUANTA, SMALL_WORDS),
+            medium: SizedRegion::new(alloc, MEDIUM_QUANTA, MEDIUM_WORDS),
             table: Table::new(alloc),
             spare: Spare::new(alloc),
             used: 0,

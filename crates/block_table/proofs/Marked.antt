@@ -78,6 +78,12 @@ module _ (t : Table) (g : Graph') (ks : List (BlockId × Kept')) (is : lying_tab
               (all_alike m (shape_of g) (graph_in t) (edges (shape_of g) id) v.mid s (shades_of new) onto blocks_are young_are v.visits));
         }
 
+    pub each_is : (c : Shade) → ((b : BlockId) → Has (shape_of g).blocks b → shades_of new b ≡ c) → (b : BlockId) → Has (graph_in t).blocks b → marks_in (lying_table new ks) b ≡ c
+    each_is c h b there = sym (ap (λ (f : Shades). f b) (same_marks new ks)) ∙ h b (begun_has b there)
+
+    pub outside_is : ((b : BlockId) → ¬ Has (shape_of g).blocks b → shades_of new b ≡ shades_of g b) → (b : BlockId) → ¬ Has (graph_in t).blocks b → marks_in (lying_table new ks) b ≡ marks_in t b
+    outside_is h b absent = sym (ap (λ (f : Shades). f b) (same_marks new ks)) ∙ h b (λ k. absent (subst (λ (l : List BlockId). Has l b) blocks_are k)) ∙ ap (λ (f : Shades). f b) marks_are
+
     pub nth_is : (n : ℕ) (c : Shade) → MatchOption (slice_get (shape_of g).blocks n) (new ≡ g) (λ id. WithShade (shades_of g) id c (shades_of new))
         → MatchOption (slice_get (graph_in t).blocks n) (lying_table new ks ≡ t) (λ id. WithShade (marks_in t) id c (marks_in (lying_table new ks)))
     nth_is n c h = subst (λ (l : List BlockId). MatchOption (slice_get l n) (lying_table new ks ≡ t) (λ id. WithShade (marks_in t) id c (marks_in (lying_table new ks)))) blocks_are (go (slice_get (shape_of g).blocks n) h)

@@ -1,6 +1,7 @@
 //! Marking: the table as a graph of its blocks and of what their words refer to.
 ghost use Rattle.std.specs.Prelude.{◌≡◌, MatchOption, is_some, slice_get, filter};
 ghost use Rattle.std.specs.Option.{option_to_list};
+ghost use Rattle.az_base.specs.declared.block_id.BlockId.{BlockId as ABlockId};
 ghost use Rattle.quantum_space.specs.Shapes.{Has, ScansOnto, Visits, VisitsOnto, WithShade, is_left_white};
 ghost use Rattle.block_table.specs.Marking.{graph_in, marks_in};
 
@@ -31,6 +32,15 @@ impl BlockTable {
         ensures rest { self.new ≡ record self.old { shades = self.new.shades } }
     {
         self.graph.shade_nth(n, shade);
+    }
+
+    /// Another shade of each of these blocks. O(their number); for white O(quanta of the subzones) where they are all.
+    pub fn shade_all(&mut self, shade: Shade)
+        ensures each { (b : ABlockId) → Has (graph_in self.old).blocks b → marks_in self.new b ≡ shade }
+        ensures outside { (b : ABlockId) → ¬ Has (graph_in self.old).blocks b → marks_in self.new b ≡ marks_in self.old b }
+        ensures rest { self.new ≡ record self.old { shades = self.new.shades } }
+    {
+        self.graph.shade_all(shade);
     }
 
     /// The n-th of these blocks, where it is white, and one that the mode takes. O(1).

@@ -127,6 +127,10 @@ impl Graph for Tables {
         self.blocks.shade_nth(n, s);
     }
 
+    fn shade_all(&mut self, s: Shade) {
+        self.blocks.shade_all(s);
+    }
+
     fn left(&self, n: u32, mode: Mode) -> Option<BlockId> {
         self.blocks.left(n, mode)
     }

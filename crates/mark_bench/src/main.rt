@@ -68,7 +68,8 @@ fn now(rt: &HostRuntime) -> u64 {
     }
 }
 
-/// Slices to the end.
+/// Slices to the end. It is a call, so that its loop has the registers to itself.
+#[inline(never)]
 fn slices<G: Filled, L: Ledger>(marker: &mut Marker, graph: &mut G, steps: &mut Steps<L>)
     requires tracks { Tracks marker.old (G.Graph.shape graph.old).blocks (G.Graph.shades graph.old) }
     requires shut { Shut marker.old.mode (G.Graph.shape graph.old) (G.Graph.shades graph.old) }

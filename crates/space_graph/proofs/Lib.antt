@@ -3,3 +3,4 @@ pub mod Visits
 pub mod Steps
 pub mod Comings
 pub mod Leaving
+pub mod Whites

@@ -1,14 +1,16 @@
 //! The blocks by position, and the space in which they lie.
-ghost use Rattle.std.specs.Prelude.{◌≡◌, ◌<◌, ◌++◌, ◌∷◌, [], length, None, Some, MatchOption, IfSome, IfNone, IfOk, OnOk, OnErr, IsTrue, is_some, slice_get};
+ghost use Rattle.std.specs.Prelude.{◌≡◌, ◌<◌, ◌≤◌, ◌++◌, ◌∷◌, [], length, None, Some, MatchOption, IfSome, IfNone, IfOk, OnOk, OnErr, IsTrue, is_some, slice_get};
 ghost use Rattle.std.specs.Map.{keys_of};
 ghost use Rattle.std.specs.Option.{option_map};
 ghost use Rattle.az_base.specs.declared.word.Word.TheVariants as words;
-ghost use Rattle.quantum_space.specs.PlacedWords.{word_of};
+ghost use Rattle.az_base.specs.declared.block_id.BlockId.{BlockId as ABlockId};
+ghost use Rattle.quantum_space.specs.declared.shade.Shade.TheVariants as shade;
+ghost use Rattle.quantum_space.specs.PlacedWords.{knowing, word_of};
 ghost use Rattle.quantum_space.specs.Regions.{HasWord};
-ghost use Rattle.quantum_space.specs.Shapes.{Has, Visits, WithShade, is_left_white};
+ghost use Rattle.quantum_space.specs.Shapes.{Has, ScansOnto, Visits, WithShade, is_left_white};
 ghost use Rattle.block_space.specs.Spaces.{region};
-ghost use Rattle.block_space.specs.Marking.{HasBlockIn, IsLost, id_in, len_in, word_in};
-ghost use Rattle.space_graph.specs.Graphs.{Follows, FollowsFrom, IsGraph, begun, rest_of, shades_of, shape_of, spot_for};
+ghost use Rattle.block_space.specs.Marking.{HasBlockIn, IsLost, id_in, len_in, with_word_in, word_in};
+ghost use Rattle.space_graph.specs.Graphs.{Follows, FollowsFrom, IsGraph, begun, rest_of, shades_of, shape_of, spot_for, with_space};
 
 mod building;
 mod leaving;
@@ -17,7 +19,7 @@ mod view;
 use crate::rows::Rows;
 use az_base::{BlockId, Mode, Word};
 use block_space::Space;
-use quantum_space::{Greys, Shade, Spot};
+use quantum_space::{Graph, Greys, Shade, Spot};
 use std::alloc::Global;
 use std::marker::Model;
 
@@ -118,6 +120,15 @@ impl SpaceGraph {
         }
     }
 
+    /// Where a small block begins, as the hint says; None where the hint is wrong.
+    fn find_small(&self, id: BlockId, hint: u32) -> Option<Spot>
+        ensures value { IfSome result (λ x. spot_for self.now.rows id ≡ Some x) }
+        ensures there { IfSome result (λ x. HasBlockIn self.now.space x) }
+        ensures its { IfSome result (λ x. id_in self.now.space x ≡ id) }
+    {
+        self.space.small_near(id, hint)
+    }
+
     /// One of the blocks as the cycle began, by position, and where it begins; None exactly past the last.
     fn row(&self, n: u32) -> Option<(BlockId, Spot)>
         ensures value { option_map (λ r. r.0) result ≡ slice_get (begun self.now) n }
@@ -153,6 +164,41 @@ impl SpaceGraph {
         self.space.shade_spot(spot, shade);
     }
 
+    /// Makes all blocks white, where all were there as the cycle began. O(quanta of the subzones).
+    fn whiten_blocks(&mut self)
+        requires { length self.old.rows ≤ self.old.began }
+        ensures each { (b : ABlockId) → Has (begun self.old) b → shades_of self.new b ≡ shade.White }
+        ensures outside { (b : ABlockId) → ¬ Has (begun self.old) b → shades_of self.new b ≡ shades_of self.old b }
+        ensures rest { rest_of self.new ≡ rest_of self.old }
+    {
+        self.space.whiten_all();
+    }
+
+    /// Gives each of the blocks as the cycle began this shade. O(their number).
+    fn shade_each(&mut self, s: Shade)
+        ensures each { (b : ABlockId) → Has (begun self.old) b → shades_of self.new b ≡ s }
+        ensures outside { (b : ABlockId) → ¬ Has (begun self.old) b → shades_of self.new b ≡ shades_of self.old b }
+        ensures rest { rest_of self.new ≡ rest_of self.old }
+    {
+        let count = self.block_count();
+        for n in 0..count {
+            self.shade_nth(n, s);
+        }
+    }
+
+    /// Makes each of the blocks as the cycle began white, by a walk over bytes where these are all.
+    fn whiten_begun(&mut self)
+        ensures each { (b : ABlockId) → Has (begun self.old) b → shades_of self.new b ≡ shade.White }
+        ensures outside { (b : ABlockId) → ¬ Has (begun self.old) b → shades_of self.new b ≡ shades_of self.old b }
+        ensures rest { rest_of self.new ≡ rest_of self.old }
+    {
+        if self.rows.len() <= self.began as usize {
+            self.whiten_blocks();
+        } else {
+            self.shade_each(Shade::White);
+        }
+    }
+
     /// Greys the block that begins at a quantum, where it is white and the mode takes it, and says whether it did.
     fn grey_at(&mut self, spot: Spot, id: BlockId, mode: Mode) -> bool
         requires block { HasBlockIn self.old.space spot }
@@ -165,6 +211,7 @@ impl SpaceGraph {
 
     /// Follows the words of a block from one on, up to the first that doesn't know where its block lies, and says which
     /// one that is.
+    #[inline(always)]
     fn follow_known(&mut self, spot: Spot, from: u32, mode: Mode, stack: &mut Greys) -> Option<u32>
         requires { HasBlockIn self.old.space spot }
         ensures follows { FollowsFrom mode spot from self.old stack.old self.new stack.new result }
@@ -180,6 +227,7 @@ impl SpaceGraph {
         requires word { HasWord (region self.old.space spot.kind) spot.at i }
         requires block { HasBlockIn self.old.space to }
         requires same { word_of (word_in self.old.space spot i) ≡ words.Block (id_in self.old.space to) }
+        ensures written { self.new ≡ with_space self.old (with_word_in self.old.space spot i (knowing (id_in self.old.space to) to)) }
         ensures shades { shades_of self.new ≡ shades_of self.old }
         ensures rest { rest_of self.new ≡ rest_of self.old }
         ensures there { HasBlockIn self.new.space to }
@@ -189,6 +237,8 @@ impl SpaceGraph {
     }
 
     /// Follows a word that doesn't know where its block lies. It knows it then, where the block is there.
+    #[cold]
+    #[inline(never)]
     fn follow_lost(&mut self, spot: Spot, i: u32, mode: Mode, stack: &mut Greys)
         requires word { HasWord (region self.old.space spot.kind) spot.at i }
         ensures follows { Follows mode spot i 1 self.old stack.old self.new stack.new }
@@ -207,6 +257,7 @@ impl SpaceGraph {
     }
 
     /// Follows all words of a block.
+    #[inline(always)]
     fn follow_words(&mut self, spot: Spot, mode: Mode, stack: &mut Greys)
         requires { HasBlockIn self.old.space spot }
         ensures follows { Follows mode spot 0 (len_in self.old.space spot) self.old stack.old self.new stack.new }
@@ -216,6 +267,33 @@ impl SpaceGraph {
         while let Some(at) = self.follow_known(spot, from, mode, stack) {
             self.follow_lost(spot, at, mode, stack);
             from = at + 1;
+        }
+    }
+
+    /// Makes the block that begins at a quantum black, and follows its words. It is made once for small blocks and once
+    /// for all, so that the kind is not asked at each step.
+    #[inline(always)]
+    fn scan_at(&mut self, spot: Spot, id: BlockId, mode: Mode, stack: &mut Greys)
+        requires block { HasBlockIn self.old.space spot }
+        requires its { id_in self.old.space spot ≡ id }
+        requires there { spot_for self.old.rows id ≡ Some spot }
+        requires begun { Has (begun self.old) id }
+        ensures scans { ScansOnto mode (shape_of self.old) id (shades_of self.old) stack.old (shades_of self.new) stack.new }
+        ensures rest { rest_of self.new ≡ rest_of self.old }
+    {
+        self.shade_at(spot, id, Shade::Black);
+        self.follow_words(spot, mode, stack);
+    }
+
+    /// Scans a block of either kind, also where the hint is wrong.
+    #[inline(never)]
+    fn scan_any(&mut self, id: BlockId, hint: u32, mode: Mode, stack: &mut Greys)
+        requires { Has (begun self.old) id }
+        ensures scans { ScansOnto mode (shape_of self.old) id (shades_of self.old) stack.old (shades_of self.new) stack.new }
+        ensures rest { rest_of self.new ≡ rest_of self.old }
+    {
+        if let Some(spot) = self.find_near(id, hint) {
+            self.scan_at(spot, id, mode, stack);
         }
     }
 }

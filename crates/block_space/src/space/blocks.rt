@@ -9,15 +9,16 @@ ghost use Rattle.quantum_space.specs.declared.place.Place.{Place as APlace};
 ghost use Rattle.quantum_space.specs.declared.spot.Spot.{Spot as ASpot};
 ghost use Rattle.block_space.specs.Marking.{HasBlockIn, HasBlockLessIn, HasBlockMoreIn, IsUnknown};
 
+use crate::sized::SizedRegion;
 use crate::space::{Space, kind_of, spot_by};
 use crate::table::Table;
 use az_base::BlockId;
 use block_layouts::Layout;
-use quantum_space::{Kind, Place, Region, Spot};
+use quantum_space::{Kind, Place, Spot};
 
 /// Puts a block into the first hole of its kind's subzones, and says its place.
 fn place_in(
-    region: &mut Region,
+    region: &mut SizedRegion,
     table: &mut Table,
     kind: Kind,
     id: BlockId,
@@ -43,7 +44,7 @@ fn place_in(
 }
 
 /// The small quanta of the block that begins at a quantum.
-fn quanta_at(region: &Region, at: usize) -> u32
+fn quanta_at(region: &SizedRegion, at: usize) -> u32
     ensures { IfSome (get_or region.now.layouts at None) (λ l. result ≡ quanta (len_of l)) }
 {
     match region.layout(at) {
@@ -53,7 +54,7 @@ fn quanta_at(region: &Region, at: usize) -> u32
 }
 
 /// Frees the block at a quantum, if one begins there.
-fn free_at(region: &mut Region, used: &mut u32, at: usize)
+fn free_at(region: &mut SizedRegion, used: &mut u32, at: usize)
     requires { block_quanta region.old.layouts ≤ used.old }
     ensures freed { IsFreedIn region.old region.new used.old used.new at }
     ensures whole { IsRegion region.old × IsRegion region.new }
@@ -67,7 +68,13 @@ fn free_at(region: &mut Region, used: &mut u32, at: usize)
 }
 
 /// Frees the block at a place, if one begins there.
-fn free_there(small: &mut Region, medium: &mut Region, table: &Table, used: &mut u32, p: Place)
+fn free_there(
+    small: &mut SizedRegion,
+    medium: &mut SizedRegion,
+    table: &Table,
+    used: &mut u32,
+    p: Place,
+)
     requires { used.old ≡ block_quanta small.old.layouts + block_quanta medium.old.layouts }
     ensures freed { IsFreedThere small.old medium.old table.now used.old p small.new medium.new used.new }
     ensures whole { (IsRegion small.old × IsRegion small.new) × (IsRegion medium.old × IsRegion medium.new) }

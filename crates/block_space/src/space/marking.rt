@@ -2,20 +2,25 @@
 //!
 //! Who marks knows a block by its quantum (`Spot`). The byte of that quantum has its shade, and its words begin there, so
 //! neither costs a look-up. What a word refers to is visited by the quantum that the word knows.
-ghost use Rattle.std.specs.Prelude.{◌≡◌, ◌<◌, ◌≤◌, None, Some, MatchOption, IsTrue, IsFalse, IfSome, get_or, if◌then◌else◌};
+ghost use Rattle.std.specs.Prelude.{◌≡◌, ◌<◌, ◌≤◌, None, Some, MatchOption, IsTrue, IsFalse, IfSome, is_some, get_or, if◌then◌else◌};
+ghost use Rattle.std.specs.Option.{option_map_or};
+ghost use Rattle.block_layouts.specs.Layouts.{len_of};
 ghost use Rattle.quantum_space.specs.Regions.{HasBlock, HasWord, IsFirstByte, with_byte};
 ghost use Rattle.quantum_space.specs.AdminBytes.{admin_of, shade_bits};
 ghost use Rattle.quantum_space.specs.Shapes.{is_unmarked};
 ghost use Rattle.quantum_space.specs.declared.shade.Shade.TheVariants as shade;
 ghost use Rattle.az_base.specs.declared.action.Mode.TheVariants as mode;
-ghost use Rattle.quantum_space.specs.PlacedWords.{knowing, unplaced};
+ghost use Rattle.quantum_space.specs.declared.spot.Kind.{Kind as AKind};
+ghost use Rattle.quantum_space.specs.declared.spot.Kind.TheVariants as kind;
+ghost use Rattle.quantum_space.specs.PlacedWords.{knowing, spot_at, unplaced};
 ghost use Rattle.block_space.specs.Spaces.{IsRight, region, spot_of};
-ghost use Rattle.block_space.specs.Marking.{HasBlockIn, HasSameBlocks, IsGreyed, IsLost, VisitsFrom, VisitsWord, byte_in, id_in, is_white_byte, layout_in, len_in, shade_told, shaded, takes_byte, with_byte_in, with_word_in, word_in};
+ghost use Rattle.block_space.specs.Marking.{HasBlockIn, HasSameBlocks, IsGreyed, IsLost, VisitsFrom, VisitsIn, VisitsWord, byte_in, id_in, is_in_medium, is_in_small, is_lost, is_white_byte, layout_in, len_in, shade_told, shaded, takes_byte, with_byte_in, with_word_in, word_in};
 
+use crate::sized::SizedRegion;
 use crate::space::Space;
 use az_base::{BlockId, Mode, Word};
 use block_layouts::Layout;
-use quantum_space::{Admin, Greys, Kind, Place, PlacedWord, Region, Shade, Spot};
+use quantum_space::{Admin, Greys, Kind, Place, PlacedWord, Shade, Spot};
 
 /// Whether a byte is of a white block.
 fn is_white(byte: u8) -> bool
@@ -55,7 +60,8 @@ fn shaded(shade: Shade, byte: u8) -> u8
 }
 
 /// Greys the block that begins at a quantum of a region, where it is white and the mode takes it, and says whether it did.
-fn grey_in(region: &mut Region, at: usize, mode: Mode) -> bool
+#[inline(always)]
+fn grey_in(region: &mut SizedRegion, at: usize, mode: Mode) -> bool
     requires { HasBlock region.old at }
     ensures told { result ≡ is_white_byte mode (get_or region.old.map.bytes at 0) }
     ensures changed { region.new ≡ (if result then with_byte region.old at (shaded shade.Grey (get_or region.old.map.bytes at 0)) else region.old) }
@@ -66,6 +72,69 @@ fn grey_in(region: &mut Region, at: usize, mode: Mode) -> bool
         true
     } else {
         false
+    }
+}
+
+/// Whether a word knows the small quantum at which its block begins.
+fn is_in_small(word: &PlacedWord) -> bool
+    ensures { result ≡ is_in_small word.now }
+{
+    match word {
+        PlacedWord::InSmall(_, _) => true,
+        PlacedWord::Null
+        | PlacedWord::Block(_)
+        | PlacedWord::InMedium(_, _)
+        | PlacedWord::Number(_) => false,
+    }
+}
+
+/// Whether a word knows the medium quantum at which its block begins.
+fn is_in_medium(word: &PlacedWord) -> bool
+    ensures { result ≡ is_in_medium word.now }
+{
+    match word {
+        PlacedWord::InMedium(_, _) => true,
+        PlacedWord::Null
+        | PlacedWord::Block(_)
+        | PlacedWord::InSmall(_, _)
+        | PlacedWord::Number(_) => false,
+    }
+}
+
+/// Whether a word refers to a block and doesn't know where it lies.
+fn is_lost(word: &PlacedWord) -> bool
+    ensures { result ≡ is_lost word.now }
+{
+    match word {
+        PlacedWord::Block(_) => true,
+        PlacedWord::Null
+        | PlacedWord::InSmall(_, _)
+        | PlacedWord::InMedium(_, _)
+        | PlacedWord::Number(_) => false,
+    }
+}
+
+/// Greys the block that begins at a quantum of a region, where it is white and the mode takes it, and then puts it onto the
+/// stack, where there is room, with the number of the quantum beside it.
+#[inline(always)]
+fn visit_in(region: &mut SizedRegion, at: u32, id: BlockId, mode: Mode, stack: &mut Greys)
+    requires { HasBlock region.old at }
+    ensures { VisitsIn mode region.old at id stack.old region.new stack.new }
+{
+    if grey_in(region, at as usize, mode) {
+        stack.push_within(id, at);
+    }
+}
+
+/// How many words the block has that begins at a quantum of a region; 0 where none begins.
+fn len_at(region: &SizedRegion, at: usize) -> u32
+    ensures value { result ≡ option_map_or len_of (get_or region.now.layouts at None) 0 }
+    ensures range { result ≤ 4096 }
+{
+    if region.begins_at(at) {
+        region.len(at)
+    } else {
+        0
     }
 }
 
@@ -142,15 +211,28 @@ impl Space {
         }
     }
 
-    /// The first quantum of the block with this id, where it is the n-th of its kind. O(1).
-    pub fn spot_near(&self, id: BlockId, n: u32) -> Option<Spot>
-        ensures { IfSome result (λ x. HasBlockIn self.now x × (id_in self.now x ≡ id)) }
+    /// The n-th small quantum, exactly where the block with this id begins there. O(1).
+    pub fn small_near(&self, id: BlockId, n: u32) -> Option<Spot>
+        ensures there { IfSome result (λ x. (x ≡ spot_at kind.Small n) × HasBlockIn self.now x × (id_in self.now x ≡ id)) }
+        ensures exact { HasBlockIn self.now (spot_at kind.Small n) → id_in self.now (spot_at kind.Small n) ≡ id → result ≡ Some (spot_at kind.Small n) }
     {
         if self.small.begins_at(n as usize) && self.small.id(n as usize) == id {
             return Some(Spot {
                 kind: Kind::Small,
                 at: n as usize,
             });
+        }
+        None
+    }
+
+    /// The n-th quantum of a kind, where the block with this id begins there; None exactly where it begins at neither
+    /// kind's. O(1).
+    pub fn spot_near(&self, id: BlockId, n: u32) -> Option<Spot>
+        ensures there { IfSome result (λ x. (x.at ≡ n) × HasBlockIn self.now x × (id_in self.now x ≡ id)) }
+        ensures exact { (k : AKind) → HasBlockIn self.now (spot_at k n) → id_in self.now (spot_at k n) ≡ id → IsTrue (is_some result) }
+    {
+        if let Some(spot) = self.small_near(id, n) {
+            return Some(spot);
         }
         if self.medium.begins_at(n as usize) && self.medium.id(n as usize) == id {
             return Some(Spot {
@@ -166,13 +248,21 @@ impl Space {
         ensures value { result ≡ len_in self.now spot }
         ensures range { result ≤ 4096 }
     {
-        let layout = match spot.kind {
-            Kind::Small => self.small.layout(spot.at),
-            Kind::Medium => self.medium.layout(spot.at),
-        };
-        match layout {
-            Some(layout) => layout.len(),
-            None => 0,
+        match spot.kind {
+            Kind::Small => len_at(&self.small, spot.at),
+            Kind::Medium => len_at(&self.medium, spot.at),
+        }
+    }
+
+    /// How many words the block has that begins at a quantum.
+    fn words_of(&self, spot: Spot) -> u32
+        requires { HasBlockIn self.now spot }
+        ensures value { result ≡ len_in self.now spot }
+        ensures range { result ≤ 4096 }
+    {
+        match spot.kind {
+            Kind::Small => self.small.len(spot.at),
+            Kind::Medium => self.medium.len(spot.at),
         }
     }
 
@@ -189,35 +279,35 @@ impl Space {
         }
     }
 
-    /// Visits the block to which a word refers; false, where it doesn't know where that lies.
+    /// Visits the block to which a word refers; false, where it doesn't know where that lies. Tests one after another cost
+    /// less here than a jump by the variant, which the compiler would make of a `match`, and of these tests if they weren't
+    /// functions: most words refer to a small block or to none.
+    #[inline(always)]
     fn visit_word(&mut self, word: PlacedWord, mode: Mode, stack: &mut Greys) -> bool
         requires { IsRight self.old.small.layouts self.old.medium.layouts self.old.small.ids self.old.medium.ids word }
         ensures visits { IsTrue result → VisitsWord mode word self.old stack.old self.new stack.new }
         ensures lost { IsFalse result → (self.new ≡ self.old) × (stack.new ≡ stack.old) × IsLost word }
     {
-        match word {
-            PlacedWord::Null => true,
-            PlacedWord::Block(_) => false,
-            PlacedWord::InSmall(id, at) => {
-                if grey_in(&mut self.small, at as usize, mode) {
-                    stack.push_within(id, at);
-                }
-                true
+        if is_in_small(&word) {
+            if let PlacedWord::InSmall(id, at) = word {
+                visit_in(&mut self.small, at, id, mode, stack);
             }
-            PlacedWord::InMedium(id, at) => {
-                if grey_in(&mut self.medium, at as usize, mode) {
-                    stack.push_within(id, at);
-                }
-                true
-            }
-            PlacedWord::Number(_) => true,
+            return true;
         }
+        if is_in_medium(&word) {
+            if let PlacedWord::InMedium(id, at) = word {
+                visit_in(&mut self.medium, at, id, mode, stack);
+            }
+            return true;
+        }
+        !is_lost(&word)
     }
 
     /// Visits the blocks to which the words refer of the block that begins at a quantum, from one word on, and puts those
     /// that turn grey onto the stack, where there is room, with the numbers of their quanta beside them. It ends before
     /// the first word that refers to a block and doesn't know where it lies, and says which one that is; None past the last
     /// word. O(words).
+    #[inline(always)]
     pub fn visit_words(
         &mut self,
         spot: Spot,
@@ -230,7 +320,38 @@ impl Space {
         ensures same { HasSameBlocks self.old self.new }
         ensures range { IfSome result (λ j. j < 4096) }
     {
-        let len = self.len_in(spot);
+        let at = spot.at;
+        match spot.kind {
+            Kind::Small => self.visit_from(
+                Spot {
+                    kind: Kind::Small,
+                    at,
+                },
+                from,
+                mode,
+                stack,
+            ),
+            Kind::Medium => self.visit_from(
+                Spot {
+                    kind: Kind::Medium,
+                    at,
+                },
+                from,
+                mode,
+                stack,
+            ),
+        }
+    }
+
+    /// The same. It is made once for each kind, so that the kind is not asked for each word.
+    #[inline(always)]
+    fn visit_from(&mut self, spot: Spot, from: u32, mode: Mode, stack: &mut Greys) -> Option<u32>
+        requires { HasBlockIn self.old spot }
+        ensures visits { VisitsFrom mode spot from self.old stack.old self.new stack.new result }
+        ensures same { HasSameBlocks self.old self.new }
+        ensures range { IfSome result (λ j. j < 4096) }
+    {
+        let len = self.words_of(spot);
         for i in from..len {
             let word = self.word_in(spot, i);
             if !self.visit_word(word, mode, stack) {

@@ -4,6 +4,7 @@ ghost use Rattle.quantum_space.specs.AdminBytes.{aged, whitened, with_age, with_
 ghost use Rattle.quantum_space.specs.declared.shade.Shade.TheVariants as shade;
 ghost use Rattle.block_space.specs.Spaces.{admin_at, HasBlockAt, IsRenotedSpace, with_admin, with_card, with_finalised};
 ghost use Rattle.block_space.specs.Maps.{AreNoted};
+ghost use Rattle.block_space.specs.Marking.{AreWhite};
 
 use crate::space::Space;
 use quantum_space::{Admin, Kind, Place, Shade};
@@ -88,6 +89,7 @@ impl Space {
     pub fn whiten_all(&mut self)
         ensures blocks { AreNoted (λ a. with_shade a shade.White) self.old self.new }
         ensures bytes { IsRenotedSpace whitened self.old self.new }
+        ensures by_quantum { AreWhite self.old self.new }
     {
         self.is_sound();
         self.whiten();

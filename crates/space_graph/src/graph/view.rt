@@ -130,16 +130,25 @@ impl Graph for SpaceGraph {
         }
     }
 
+    #[inline(always)]
     fn scan(&mut self, id: BlockId, hint: u32, mode: Mode, stack: &mut Greys) {
-        if let Some(spot) = self.find_near(id, hint) {
-            self.shade_at(spot, id, Shade::Black);
-            self.follow_words(spot, mode, stack);
+        match self.find_small(id, hint) {
+            Some(spot) => self.scan_at(spot, id, mode, stack),
+            None => self.scan_any(id, hint, mode, stack),
         }
     }
 
     fn shade_nth(&mut self, n: u32, s: Shade) {
         if let Some(row) = self.row(n) {
             self.shade_at(row.1, row.0, s);
+        }
+    }
+
+    fn shade_all(&mut self, s: Shade) {
+        match s {
+            Shade::White => self.whiten_begun(),
+            Shade::Grey => self.shade_each(Shade::Grey),
+            Shade::Black => self.shade_each(Shade::Black),
         }
     }
 

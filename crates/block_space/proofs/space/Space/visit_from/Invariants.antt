@@ -1,6 +1,6 @@
 use Rattle.std.proofs.Common.{◌≡◌, ℕ, ◌+◌, ◌≤◌, ◌⊎◌}
 use Rattle.block_space.specs.Marking.{HasSameBlocks, VisitsWords}
-use Rattle.block_space.proofs.space.Space.visit_words.Given as goal
+use Rattle.block_space.proofs.space.Space.visit_from.Given as goal
 
 abbrev pub invariant-loop-i : goal.invariant-loop-i
 invariant-loop-i l = record {
