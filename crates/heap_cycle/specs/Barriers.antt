@@ -29,6 +29,11 @@ pub record IsWatched (t : Tables) (o : Option OpenCycle) (a b : BlockId) : Type 
   pub covered : IsTrue (is_old_at t.blocks.blocks a) → IsFalse (is_old_at t.blocks.blocks b) → IsTrue (among t.cards.list a)
   pub condemned : (c : OpenCycle) (r : List BlockId) → o ≡ Some c → condemned_at c.phase ≡ Some r → IsFalse (among r a) → IsTrue (among r b) → Has (graph_of t).remembered a
 
+-- what is stored into a wants that a is remembered: a is old and it isn't, or it is condemned
+abbrev pub StoreWantsCard : Tables → Option OpenCycle → BlockId → Option BlockId → Type 0
+StoreWantsCard t o a None = ⊥
+StoreWantsCard t o a (Some b) = (IsTrue (is_old_at t.blocks.blocks a) × IsFalse (is_old_at t.blocks.blocks b)) ⊎ IsTrue (is_condemned_by o b)
+
 -- nothing but shades and cards is new in the tables
 abbrev pub OnlyNotes : Tables → Tables → Type 0
 OnlyNotes old new = unshaded new ≡ record (unshaded old) { cards = new.cards }

@@ -1,11 +1,11 @@
 //! What a call tells the collections of a heap before it changes the tables. Each of these keeps what tables and an open
 //! cycle have to keep, so the change that follows does so where it adds no edges but those that were told.
-ghost use Rattle.std.specs.Prelude.{◌≡◌, ◌≤◌, ◌+◌, IsTrue, IfSome, OnOk, OnErr, Some, [], ◌∷◌, length};
+ghost use Rattle.std.specs.Prelude.{◌≡◌, ◌≤◌, ◌+◌, ◌⊎◌, IsTrue, IfSome, OnOk, OnErr, Some, [], ◌∷◌, length};
 ghost use Rattle.az_base.specs.Ids.{among};
 ghost use Rattle.az_base.specs.declared.block_id.BlockId.{BlockId};
 ghost use Rattle.heap_tables.specs.Unshaded.{unshaded};
 ghost use Rattle.quantum_space.specs.Shapes.{Has};
-ghost use Rattle.heap_cycle.specs.Barriers.{IsLive, IsWatched, OnlyNotes, Remembers, is_condemned_by, seen_by_barrier};
+ghost use Rattle.heap_cycle.specs.Barriers.{IsLive, IsWatched, OnlyNotes, Remembers, StoreWantsCard, is_condemned_by, seen_by_barrier};
 ghost use Rattle.heap_cycle.specs.Collects.{Collects, collector_of, is_old_at};
 ghost use Rattle.heap_cycle.specs.Livening.{Livens, blocks_in, of_option};
 
@@ -79,6 +79,7 @@ pub fn remember(
     ensures collects { Collects tables.new cycle.now }
     ensures same { tables.new ≡ record tables.old { cards = tables.new.cards } }
     ensures remembers { Remembers tables.old tables.new into }
+    ensures needed { (tables.new ≡ tables.old) ⊎ StoreWantsCard tables.old cycle.now into value }
     ensures watched { IfSome value (IsWatched tables.new cycle.now into) }
 {
     let Some(value) = value else {
@@ -86,12 +87,10 @@ pub fn remember(
     };
     let phase = phase_of(cycle);
     let condemned = is_condemned(cycle, value);
-    let effect = on_store(
-        phase,
-        is_old(tables, into),
-        is_old(tables, value),
-        condemned,
-    );
+    let old = is_old(tables, into);
+    // Whether the value is old counts only where the other one is.
+    let value_old = old && is_old(tables, value);
+    let effect = on_store(phase, old, value_old, condemned);
     if effect.remember {
         // No block is remembered twice, so there is room for one that isn't remembered yet.
         let _cards = tables.cards.list();
@@ -123,7 +122,7 @@ pub fn tell_store(
 pub fn is_old(tables: &Tables, id: BlockId) -> bool
     ensures { result ≡ is_old_at tables.now.blocks.blocks id }
 {
-    tables.blocks.has(id) && !tables.blocks.is_young(id)
+    !tables.blocks.is_young(id) && tables.blocks.has(id)
 }
 
 /// Whether the open cycle has condemned the block. O(log condemned).
