@@ -201,6 +201,15 @@ impl SizedRegion {
         self.region.word(at, i)
     }
 
+    /// The same, for who knows how many words a quantum has. O(1).
+    pub fn word_by(&self, width: usize, at: usize, i: usize) -> PlacedWord
+        requires width { width ≡ self.now.width }
+        requires word { HasWord self.now at i }
+        ensures { result ≡ get_or self.now.words (at * self.now.width + i) Null }
+    {
+        self.region.word_by(width, at, i)
+    }
+
     /// Changes a word of the block that begins at a quantum. O(1).
     pub fn set_word(&mut self, at: usize, i: usize, word: PlacedWord)
         requires { HasWord self.old at i }

@@ -17,7 +17,7 @@ ghost use Rattle.block_space.specs.Spaces.{IsRight, region, spot_of};
 ghost use Rattle.block_space.specs.Marking.{HasBlockIn, HasSameBlocks, IsGreyed, IsLost, VisitsFrom, VisitsIn, VisitsWord, byte_in, id_in, is_in_medium, is_in_small, is_lost, is_white_byte, layout_in, len_in, shade_told, shaded, takes_byte, with_byte_in, with_word_in, word_in};
 
 use crate::sized::SizedRegion;
-use crate::space::Space;
+use crate::space::{MEDIUM_WORDS, SMALL_WORDS, Space};
 use az_base::{BlockId, Mode, Word};
 use block_layouts::Layout;
 use quantum_space::{Admin, Greys, Kind, Place, PlacedWord, Shade, Spot};
@@ -273,9 +273,10 @@ impl Space {
         ensures right { IsRight self.now.small.layouts self.now.medium.layouts self.now.small.ids self.now.medium.ids result }
     {
         self.is_whole();
+        self.is_sound();
         match spot.kind {
-            Kind::Small => self.small.word(spot.at, i as usize),
-            Kind::Medium => self.medium.word(spot.at, i as usize),
+            Kind::Small => self.small.word_by(SMALL_WORDS, spot.at, i as usize),
+            Kind::Medium => self.medium.word_by(MEDIUM_WORDS, spot.at, i as usize),
         }
     }
 
