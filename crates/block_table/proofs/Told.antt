@@ -45,6 +45,13 @@ module _ (t : Table) (g : Graph') (ks : List (BlockId × Kept')) (is : lying_tab
   pub holds_none : (q : BlockId) → None ≡ spot_for g.rows q → get t.holds q ≡ None
   holds_none q e = at_holds t (entries_of g ks) g.began g.space.spare is q None (row_none g ks q (sym e))
 
+  pub there_is : (q : BlockId) → is_some (spot_for g.rows q) ≡ is_some (get t.blocks q)
+  there_is q = go (spot_for g.rows q) refl
+    where
+      go : (o : Option Spot) → spot_for g.rows q ≡ o → is_some (spot_for g.rows q) ≡ is_some (get t.blocks q)
+      go None e = ap is_some e ∙ sym (ap is_some (block_none q (sym e)))
+      go (Some x) e = ap is_some e ∙ sym (ap is_some (block_there q x (sym e)))
+
   -- the words of a block that is there
   pub words_there : (q : BlockId) (x : Spot) → Some x ≡ spot_for g.rows q → words_in t.blocks q ≡ words_at g.space x
   words_there q x e = ap (λ o. option_map_or (λ (k : HeapBlock). k.words) o []) (block_there q x e) ∙ all_unmarked g.space x

@@ -1,5 +1,5 @@
 //! The blocks by id and by position.
-ghost use Rattle.std.specs.Prelude.{List, ◌≡◌, ◌<◌, ◌≤◌, ◌+◌, ◌*◌, ◌⊎◌, ◌++◌, ◌^◌, ℕ, [], None, Some, true, false, is_some, length, map, IsOk, IsSome, IsTrue, IfSome, OnOk, OnErr, MatchOption, option_and_then, option_map, slice_get, slice_set};
+ghost use Rattle.std.specs.Prelude.{List, ◌≡◌, ◌<◌, ◌≤◌, ◌+◌, ◌*◌, ◌⊎◌, ◌&&◌, ◌++◌, ◌^◌, ℕ, [], None, Some, true, false, is_some, not, length, map, IsOk, IsSome, IsTrue, IfSome, OnOk, OnErr, MatchOption, option_and_then, option_map, slice_get, slice_set};
 ghost use Rattle.std.specs.Option.{option_map_or};
 ghost use Rattle.std.specs.FinMap.{get, contains_key, empty};
 ghost use Rattle.az_base.specs.declared.block_id.BlockId.{BlockId};
@@ -149,12 +149,17 @@ impl BlockTable {
         }
     }
 
-    /// How many words the block has, at most 4,096; 0 where it isn't there.
-    pub fn words(&self, id: BlockId) -> u32
+    /// A hint where the block at a position lies, for the calls that take one. O(1).
+    pub fn hint(&self, n: u32) -> u32 {
+        self.graph.hint(n)
+    }
+
+    /// How many words the block has, at most 4,096; 0 where it isn't there. It isn't looked up where the hint is right.
+    pub fn words(&self, id: BlockId, hint: u32) -> u32
         ensures value { result ≡ length (words_in self.now.blocks id) }
         ensures range { result ≤ 4096 }
     {
-        match self.graph.find(id) {
+        match self.graph.find_near(id, hint) {
             Some(spot) => self.graph.space().len_in(spot),
             None => 0,
         }
@@ -185,12 +190,12 @@ impl BlockTable {
     }
 
     /// The first block that a word refers to, from a place on, and the place after it; None where there is none, or no
-    /// such block. It looks at Strong words alone.
-    pub fn next_word(&self, id: BlockId, at: u32) -> Option<(BlockId, u32)>
+    /// such block. It looks at Strong words alone. The block isn't looked up where the hint is right.
+    pub fn next_word(&self, id: BlockId, at: u32, hint: u32) -> Option<(BlockId, u32)>
         ensures next { NextOf (map in_word (words_in self.now.blocks id)) at result }
         ensures few { length (words_in self.now.blocks id) ≤ 4096 }
     {
-        match self.graph.find(id) {
+        match self.graph.find_near(id, hint) {
             Some(spot) => reading::next_word(self.graph.space(), spot, at),
             None => None,
         }
@@ -232,6 +237,13 @@ impl BlockTable {
         ensures { result ≡ is_young_at self.now.blocks id }
     {
         self.graph.is_young(id)
+    }
+
+    /// Whether the block is there, and of age 3. It isn't looked up where the hint is right.
+    pub fn is_old(&self, id: BlockId, hint: u32) -> bool
+        ensures { result ≡ contains_key self.now.blocks id && not (is_young_at self.now.blocks id) }
+    {
+        self.graph.is_old(id, hint)
     }
 
     /// The age of each block rises by one, to at most 3.

@@ -122,7 +122,14 @@ pub fn tell_store(
 pub fn is_old(tables: &Tables, id: BlockId) -> bool
     ensures { result ≡ is_old_at tables.now.blocks.blocks id }
 {
-    !tables.blocks.is_young(id) && tables.blocks.has(id)
+    is_old_near(tables, id, 0)
+}
+
+/// Whether the block is old. It isn't looked up where the hint is right.
+pub fn is_old_near(tables: &Tables, id: BlockId, hint: u32) -> bool
+    ensures { result ≡ is_old_at tables.now.blocks.blocks id }
+{
+    tables.blocks.is_old(id, hint)
 }
 
 /// Whether the open cycle has condemned the block. O(log condemned).

@@ -8,12 +8,11 @@ ghost use Rattle.block_table.specs.Table.{AreApart, IsTable, without};
 ghost use Rattle.heap_cycle.specs.Collects.{Collects, condemned_at};
 ghost use Rattle.heap_cycle.specs.Phases.{HasSettled, IsReclaimed, WantsCard};
 
-use crate::barriers::is_old;
+use crate::barriers::{is_old, is_old_near};
 use crate::open_cycle::{OpenCycle, Phase};
 use az_base::BlockId;
 use finalise_pass::Settled;
 use heap_tables::Tables;
-use quantum_space::Graph;
 use write_barrier::Cards;
 
 impl OpenCycle {
@@ -90,22 +89,22 @@ fn card_at(tables: &Tables, n: u32) -> Option<BlockId>
     ensures none { result ≡ None → IfSome (slice_get tables.now.blocks.order n) (λ id. ¬ WantsCard tables.now id) }
 {
     let id = tables.blocks.nth(n)?;
-    if wants_card(tables, id) {
+    if wants_card(tables, id, tables.blocks.hint(n)) {
         Some(id)
     } else {
         None
     }
 }
 
-/// Whether the block is old and refers to one that isn't. O(its edges).
-fn wants_card(tables: &Tables, id: BlockId) -> bool
+/// Whether the block is old and refers to one that isn't. It isn't looked up where the hint is right. O(its edges).
+fn wants_card(tables: &Tables, id: BlockId, hint: u32) -> bool
     ensures { IsTrue result ↔ WantsCard tables.now id }
 {
-    if !is_old(tables, id) {
+    if !is_old_near(tables, id, hint) {
         return false;
     }
     let mut place = 0;
-    while let Some(found) = tables.edge_from(id, place) {
+    while let Some(found) = tables.next_edge(id, place, hint) {
         if !is_old(tables, found.0) {
             return true;
         }

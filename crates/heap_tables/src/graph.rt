@@ -99,7 +99,7 @@ impl Graph for Tables {
     }
 
     fn edge_from(&self, id: BlockId, place: u64) -> Option<(BlockId, u64)> {
-        self.next_edge(id, place)
+        self.next_edge(id, place, 0)
     }
 
     fn is_young(&self, id: BlockId) -> bool {

@@ -100,25 +100,25 @@ impl Tables {
     }
 
     /// The first block that a word refers to, from any place on, and the place after it.
-    fn word_from(&self, id: BlockId, place: u64) -> Option<(BlockId, u64)>
+    fn word_from(&self, id: BlockId, place: u64, hint: u32) -> Option<(BlockId, u64)>
         ensures next { NextOf (map in_word (words_in self.now.blocks.blocks id)) place result }
         ensures range { MatchOption result (Unit {0}) (λ x. x.1 ≤ 4096) }
     {
-        match self.blocks.next_word(id, place.min(4_096) as u32) {
+        match self.blocks.next_word(id, place.min(4_096) as u32, hint) {
             Some(found) => Some((found.0, u64::from(found.1))),
             None => None,
         }
     }
 
     /// The first value of an association, from a place on after the words.
-    fn value_from(&self, id: BlockId, place: u64) -> Option<(BlockId, u64)>
+    fn value_from(&self, id: BlockId, place: u64, hint: u32) -> Option<(BlockId, u64)>
         requires { somes (drop place (map in_word (words_in self.now.blocks.blocks id))) ≡ [] }
         ensures { NextOf (edge_places self.now id) place result }
     {
         if self.assocs.len() == 0 {
             return None;
         }
-        let words = u64::from(self.blocks.words(id));
+        let words = u64::from(self.blocks.words(id, hint));
         let n = place.saturating_sub(words);
         match self.assocs.nth_of(id, n as usize) {
             Some(found) => Some((found.1, words + n + 1)),
@@ -126,13 +126,14 @@ impl Tables {
         }
     }
 
-    /// The end of the first edge that leads from the block, from a place on, and the place after it.
-    pub(crate) fn next_edge(&self, id: BlockId, place: u64) -> Option<(BlockId, u64)>
+    /// The end of the first edge that leads from the block, from a place on, and the place after it. The block isn't looked
+    /// up where the hint is right.
+    pub fn next_edge(&self, id: BlockId, place: u64, hint: u32) -> Option<(BlockId, u64)>
         ensures { NextOf (edge_places self.now id) place result }
     {
-        match self.word_from(id, place) {
+        match self.word_from(id, place, hint) {
             Some(found) => Some(found),
-            None => self.value_from(id, place),
+            None => self.value_from(id, place, hint),
         }
     }
 }

@@ -1,5 +1,5 @@
 //! The blocks by position, and the space in which they lie.
-ghost use Rattle.std.specs.Prelude.{◌≡◌, ◌<◌, ◌≤◌, ◌++◌, ◌∷◌, [], length, None, Some, MatchOption, IfSome, IfNone, IfOk, OnOk, OnErr, IsTrue, is_some, slice_get};
+ghost use Rattle.std.specs.Prelude.{◌≡◌, ◌<◌, ◌≤◌, ◌++◌, ◌∷◌, [], length, None, Some, MatchOption, IfSome, IfNone, IfOk, OnOk, OnErr, IsTrue, is_some, not, slice_get, ◌&&◌};
 ghost use Rattle.std.specs.Map.{keys_of};
 ghost use Rattle.std.specs.Option.{option_map};
 ghost use Rattle.az_base.specs.declared.word.Word.TheVariants as words;
@@ -108,8 +108,26 @@ impl SpaceGraph {
         self.rows.find(id)
     }
 
-    /// The same, without a look-up where the hint is right.
-    fn find_near(&self, id: BlockId, hint: u32) -> Option<Spot>
+    /// A hint where the block at a position lies; 0 past the last. O(1).
+    pub fn hint(&self, n: u32) -> u32 {
+        match self.rows.get(n) {
+            Some(row) => hint_of(row.1),
+            None => 0,
+        }
+    }
+
+    /// Whether the block is there, and isn't young. It isn't looked up where the hint is right.
+    pub fn is_old(&self, id: BlockId, hint: u32) -> bool
+        ensures { result ≡ is_some (spot_for self.now.rows id) && not ((shape_of self.now).young id) }
+    {
+        match self.find_near(id, hint) {
+            Some(spot) => !self.space.is_young_in(spot),
+            None => false,
+        }
+    }
+
+    /// Where a block begins, without a look-up where the hint is right; None exactly where it isn't there.
+    pub fn find_near(&self, id: BlockId, hint: u32) -> Option<Spot>
         ensures value { result ≡ spot_for self.now.rows id }
         ensures there { IfSome result (λ x. HasBlockIn self.now.space x) }
         ensures its { IfSome result (λ x. id_in self.now.space x ≡ id) }
