@@ -1,5 +1,5 @@
 -- The value of a word, digit after digit.
-use Rattle.std.proofs.Common.{◌≡◌, ℕ, ◌+◌, ◌*◌, ◌-◌, ◌<◌, ◌≤◌, ◌^◌, Bool, true, false, cond, eqb, ltb, leb, not, List, [], length, take, get_or, Option, Some, None, refl, sym, ap, ◌∙◌, arith, take_all}
+use Rattle.std.proofs.Common.{◌≡◌, ℕ, ◌+◌, ◌*◌, ◌-◌, ◌<◌, ◌≤◌, ◌^◌, Bool, true, false, cond, eqb, ltb, leb, not, List, [], ◌∷◌, length, take, get_or, Option, Some, None, refl, sym, ap, ◌∙◌, arith, take_all}
 use Rattle.std.specs.List.{list_all}
 use Rattle.std.specs.Char.{is_ascii_digit, digit_value}
 use Rattle.std.specs.Str.Parse.{digits_value}
@@ -101,3 +101,15 @@ all_read word i value end some short h =
     let b : ltb 20 (length word) ≡ false = le-ltb 20 (length word) short in
     let f : ltb value (2 ^ 64) ≡ true = lt-ltb _ _ h.fits in
     rw (digits, a, b, is, f) refl
+
+-- a digit alone is a numeral
+pub digit_alone : (c v : ℕ) → is_ascii_digit c ≡ true → v ≡ c - 48 → Some v ≡ numeral_of (c ∷ [])
+digit_alone c v d is =
+    let p = and_parts (leb 48 c) (leb c 57) d in
+    let high : c ≤ 57 = leb-true c 57 p.1 in
+    let zero_before : c - 48 ≡ 0 * 10 + (c - 48) = omega arith in
+    all_read (c ∷ []) 1 v (omega arith) (omega arith) (omega arith) record {
+      digits = rw d refl;
+      says = is ∙ zero_before ∙ sym (value_with (c ∷ []) 0 0 (omega arith) d (nothing_read (c ∷ [])));
+      fits = omega arith;
+    }

@@ -3,18 +3,18 @@ ghost use Rattle.std.specs.Prelude.{◌≡◌, ◌∷◌, ◌<◌, ◌≤◌, �
 ghost use Rattle.std.specs.Str.{IsUtf8};
 ghost use Rattle.az_words.specs.Lines.{is_feed, lines_of};
 
+use memchr::memchr;
+
 /// How many bytes stand before the first line feed.
 fn line_len(bytes: &[u8]) -> usize
     ensures within { result ≤ length bytes.now }
     ensures before { (k : ℕ) → k < result → is_feed (slice_index bytes.now k) ≡ false }
     ensures here { result < length bytes.now → is_feed (slice_index bytes.now result) ≡ true }
 {
-    for (i, byte) in bytes.iter().enumerate() {
-        if *byte == b'\n' {
-            return i;
-        }
+    match memchr(b'\n', bytes) {
+        Some(at) => at,
+        None => bytes.len(),
     }
-    bytes.len()
 }
 
 /// The first line, without its line feed, and what comes after it; None exactly where no byte is left. A last line

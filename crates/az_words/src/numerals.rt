@@ -1,5 +1,5 @@
 //! The numbers that words say.
-ghost use Rattle.std.specs.Prelude.{◌≡◌, ◌≤◌, ◌+◌, ◌*◌, ◌-◌, true, IfSome};
+ghost use Rattle.std.specs.Prelude.{◌≡◌, ◌≤◌, ◌+◌, ◌*◌, ◌-◌, [], ◌∷◌, true, IfSome};
 ghost use Rattle.std.specs.Char.{is_ascii_digit};
 ghost use Rattle.az_words.specs.Numerals.{below_2_64, numeral_of, number_in};
 
@@ -14,6 +14,28 @@ fn with_digit(value: u64, digit: u8) -> Option<u64>
 /// The value of a numeral: 1 to 20 decimal digits, leading zeros included, whose value is below 2^64. None exactly
 /// where the word is no numeral. O(bytes of the word).
 pub fn numeral(word: &[u8]) -> Option<u64>
+    ensures { result ≡ numeral_of word.now }
+{
+    // Most numerals of scripts and histories have one digit.
+    match word {
+        [digit] => short_numeral(*digit),
+        _ => long_numeral(word),
+    }
+}
+
+/// The value of a numeral of one digit; None exactly where the byte is no digit.
+fn short_numeral(digit: u8) -> Option<u64>
+    ensures { result ≡ numeral_of (digit ∷ []) }
+{
+    if digit.is_ascii_digit() {
+        Some(u64::from(digit - b'0'))
+    } else {
+        None
+    }
+}
+
+/// The value of a numeral of any length, digit by digit.
+fn long_numeral(word: &[u8]) -> Option<u64>
     ensures { result ≡ numeral_of word.now }
 {
     if word.is_empty() {

@@ -1,7 +1,7 @@
 use Rattle.std.proofs.Common.{sym, ◌∙◌, arith}
 use Rattle.az_words.proofs.Cutting.{none_left, some_left}
 use Rattle.az_words.proofs.Digits.{one_digit, none_there, too_long, no_digit, too_large, all_read}
-use Rattle.az_words.proofs.numerals.numeral.Goals as goal
+use Rattle.az_words.proofs.numerals.long_numeral.Goals as goal
 
 pub returns-then-is_empty : goal.returns-then-is_empty
 returns-then-is_empty c = none_there c.args.word.now (none_left c.args.word.now c.is_empty.result c.is_empty.ensures c.if-is_empty.true)
