@@ -40,11 +40,11 @@ fn push_layout(out: &mut String, layout: &Layout) -> Result<(), AllocError>
 {
     match layout.shape() {
         Shape::Scanned(words) => {
-            push_word(out, "scanned")?;
+            out.push_str(" scanned")?;
             push_place(out, *words)
         }
         Shape::Unscanned(words) => {
-            push_word(out, "unscanned")?;
+            out.push_str(" unscanned")?;
             push_place(out, *words)
         }
         Shape::Object(classes) => {
@@ -61,11 +61,11 @@ fn push_action(out: &mut String, action: &Action) -> Result<(), AllocError>
 {
     match action {
         Action::Keep(root) => {
-            push_word(out, "keep")?;
+            out.push_str(" keep")?;
             push_root(out, *root)
         }
         Action::Pass(root, at) => {
-            push_word(out, "pass")?;
+            out.push_str(" pass")?;
             push_root(out, *root)?;
             push_place(out, *at)
         }
@@ -118,102 +118,102 @@ pub fn push_call(out: &mut String, call: &Call) -> Result<(), AllocError>
             layout,
             actions,
         } => {
-            push_word(out, "new")?;
+            out.push_str(" new")?;
             push_register(out, *to)?;
             push_layout(out, layout)?;
             push_actions(out, actions.as_slice())
         }
         Call::Load { to, from, at } => {
-            push_word(out, "load")?;
+            out.push_str(" load")?;
             push_register(out, *to)?;
             push_register(out, *from)?;
             push_place(out, *at)
         }
         Call::Store { into, at, from } => {
-            push_word(out, "store")?;
+            out.push_str(" store")?;
             push_register(out, *into)?;
             push_place(out, *at)?;
             push_register(out, *from)
         }
         Call::Put { into, at, number } => {
-            push_word(out, "put")?;
+            out.push_str(" put")?;
             push_register(out, *into)?;
             push_place(out, *at)?;
             push_number(out, *number)
         }
         Call::Get { from, at } => {
-            push_word(out, "get")?;
+            out.push_str(" get")?;
             push_register(out, *from)?;
             push_place(out, *at)
         }
         Call::Copy { to, from } => {
-            push_word(out, "copy")?;
+            out.push_str(" copy")?;
             push_register(out, *to)?;
             push_register(out, *from)
         }
         Call::DropReg { reg } => {
-            push_word(out, "drop")?;
+            out.push_str(" drop")?;
             push_register(out, *reg)
         }
         Call::CollectLocal => out.push_str(" collect local"),
         Call::SetRoot { root, from } => {
-            push_word(out, "setroot")?;
+            out.push_str(" setroot")?;
             push_root(out, *root)?;
             push_register(out, *from)
         }
         Call::GetRoot { to, root } => {
-            push_word(out, "getroot")?;
+            out.push_str(" getroot")?;
             push_register(out, *to)?;
             push_root(out, *root)
         }
         Call::Retain { reg } => {
-            push_word(out, "retain")?;
+            out.push_str(" retain")?;
             push_register(out, *reg)
         }
         Call::Release { reg } => {
-            push_word(out, "release")?;
+            out.push_str(" release")?;
             push_register(out, *reg)
         }
         Call::Count { reg } => {
-            push_word(out, "count")?;
+            out.push_str(" count")?;
             push_register(out, *reg)
         }
         Call::Take { to, id } => {
-            push_word(out, "take")?;
+            out.push_str(" take")?;
             push_register(out, *to)?;
             push_id(out, *id)
         }
         Call::SetAssoc { object, key, value } => {
-            push_word(out, "setassoc")?;
+            out.push_str(" setassoc")?;
             push_register(out, *object)?;
             push_key(out, *key)?;
             push_register(out, *value)
         }
         Call::GetAssoc { to, object, key } => {
-            push_word(out, "getassoc")?;
+            out.push_str(" getassoc")?;
             push_register(out, *to)?;
             push_register(out, *object)?;
             push_key(out, *key)
         }
         Call::SetWeak { loc, from } => {
-            push_word(out, "setweak")?;
+            out.push_str(" setweak")?;
             push_loc(out, *loc)?;
             push_register(out, *from)
         }
         Call::ReadWeak { to, loc } => {
-            push_word(out, "readweak")?;
+            out.push_str(" readweak")?;
             push_register(out, *to)?;
             push_loc(out, *loc)
         }
-        Call::Stats => push_word(out, "stats"),
+        Call::Stats => out.push_str(" stats"),
         Call::Begin { mode } => {
-            push_word(out, "begin")?;
+            out.push_str(" begin")?;
             push_word(out, mode_word(*mode))
         }
-        Call::Condemn => push_word(out, "condemn"),
-        Call::Finalise => push_word(out, "finalise"),
-        Call::Reclaim => push_word(out, "reclaim"),
-        Call::Leave => push_word(out, "leave"),
+        Call::Condemn => out.push_str(" condemn"),
+        Call::Finalise => out.push_str(" finalise"),
+        Call::Reclaim => out.push_str(" reclaim"),
+        Call::Leave => out.push_str(" leave"),
     }
 }
 
@@ -225,7 +225,7 @@ pub fn push_act(out: &mut String, act: &Act) -> Result<(), AllocError>
     match act {
         Act::Call(call) => push_call(out, call),
         Act::Collect(mode) => {
-            push_word(out, "collect")?;
+            out.push_str(" collect")?;
             push_word(out, mode_word(*mode))
         }
     }

@@ -1,5 +1,5 @@
 //! Writers of single words, one for each kind of word. Each adds the word behind a space.
-ghost use Rattle.std.specs.Prelude.{◌≡◌, [], ◌∷◌, string_bytes};
+ghost use Rattle.std.specs.Prelude.{◌≡◌, ◌<◌, [], ◌∷◌, IfSome, string_bytes};
 ghost use Rattle.std.specs.Fmt.{decimal};
 ghost use Rattle.az_base.specs.Texts.{reg_text, root_text, weak_text, key_text, id_text};
 ghost use Rattle.call_words.specs.Spacing.{Adds, spread};
@@ -15,8 +15,25 @@ pub fn push_decimal(out: &mut String, number: u64) -> Result<(), AllocError>
     ensures range { IsNumber number }
 {
     if number < 10 {
-        return out.push(char::from(b'0' + number as u8));
+        push_digit(out, number as u8)
+    } else {
+        push_digits(out, number)
     }
+}
+
+/// Adds a digit.
+fn push_digit(out: &mut String, digit: u8) -> Result<(), AllocError>
+    requires { digit < 10 }
+    ensures { Adds (string_bytes out.old) (string_bytes out.new) result (decimal digit) }
+{
+    out.push(char::from(b'0' + digit))
+}
+
+/// Adds a numeral of any length.
+#[inline(never)]
+fn push_digits(out: &mut String, number: u64) -> Result<(), AllocError>
+    ensures { Adds (string_bytes out.old) (string_bytes out.new) result (decimal number) }
+{
     let mut buffer = Buffer::new();
     out.push_str(buffer.format(number))
 }
@@ -37,6 +54,7 @@ pub fn push_feed(out: &mut String) -> Result<(), AllocError>
 }
 
 /// Adds a fixed word.
+#[inline(always)]
 pub fn push_word(out: &mut String, word: &str) -> Result<(), AllocError>
     ensures { Adds (string_bytes out.old) (string_bytes out.new) result (32 ∷ word.now) }
 {
@@ -53,6 +71,7 @@ pub fn push_number(out: &mut String, number: u64) -> Result<(), AllocError>
 }
 
 /// Adds a number behind its name.
+#[inline(always)]
 pub fn push_named(out: &mut String, name: &str, number: u64) -> Result<(), AllocError>
     ensures adds { Adds (string_bytes out.old) (string_bytes out.new) result (spread (name.now ∷ decimal number ∷ [])) }
     ensures range { IsNumber number }
@@ -74,8 +93,33 @@ pub fn push_register(out: &mut String, reg: Reg) -> Result<(), AllocError>
     ensures range { IsReg reg }
 {
     let number = reg.get();
-    out.push_str(" r")?;
-    push_decimal(out, u64::from(number))
+    match short_register(number) {
+        Some(word) => out.push_str(word),
+        None => {
+            out.push_str(" r")?;
+            push_decimal(out, u64::from(number))
+        }
+    }
+}
+
+/// A register of one digit, behind a space.
+#[tactic(auto, unfolding(az_base::specs::Texts::reg_text))]
+fn short_register(number: u32) -> Option<&'static str>
+    ensures { IfSome result (λ word. word.now ≡ 32 ∷ reg_text number) }
+{
+    match number {
+        0 => Some(" r0"),
+        1 => Some(" r1"),
+        2 => Some(" r2"),
+        3 => Some(" r3"),
+        4 => Some(" r4"),
+        5 => Some(" r5"),
+        6 => Some(" r6"),
+        7 => Some(" r7"),
+        8 => Some(" r8"),
+        9 => Some(" r9"),
+        _ => None,
+    }
 }
 
 #[tactic(auto, unfolding(az_base::specs::Texts::root_text))]

@@ -44,7 +44,7 @@ pub fn push_entry(out: &mut String, entry: &Entry) -> Result<(), AllocError>
 {
     push_thread(out, entry.thread)?;
     push_call(out, &entry.call)?;
-    push_word(out, "=")?;
+    out.push_str(" =")?;
     push_reply(out, &entry.reply)
 }
 

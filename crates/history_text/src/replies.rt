@@ -27,7 +27,7 @@ fn push_ids(out: &mut String, ids: &[BlockId]) -> Result<(), AllocError>
     ensures range { OnOk result (AreIds ids.now) }
 {
     if ids.is_empty() {
-        return push_word(out, "none");
+        return out.push_str(" none");
     }
     push_more_ids(out, ids)
 }
@@ -68,33 +68,33 @@ pub fn push_reply(out: &mut String, reply: &Reply) -> Result<(), AllocError>
     ensures range { OnOk result (IsReply reply.now) }
 {
     match reply {
-        Reply::Done => push_word(out, "ok"),
-        Reply::Block(None) => push_word(out, "null"),
+        Reply::Done => out.push_str(" ok"),
+        Reply::Block(None) => out.push_str(" null"),
         Reply::Block(Some(id)) => push_id(out, *id),
         Reply::Number(number) => push_number(out, *number),
-        Reply::Busy => push_word(out, "busy"),
-        Reply::Begun => push_word(out, "begun"),
+        Reply::Busy => out.push_str(" busy"),
+        Reply::Begun => out.push_str(" begun"),
         Reply::Condemned(ids) => {
-            push_word(out, "condemned")?;
+            out.push_str(" condemned")?;
             push_ids(out, ids.as_slice())
         }
         Reply::Finalised(id) => {
-            push_word(out, "finalised")?;
+            out.push_str(" finalised")?;
             push_id(out, *id)
         }
         Reply::Reclaimed(ids) => {
-            push_word(out, "reclaimed")?;
+            out.push_str(" reclaimed")?;
             push_ids(out, ids.as_slice())
         }
         Reply::Settled { reclaimed, kept } => {
-            push_word(out, "reclaimed")?;
+            out.push_str(" reclaimed")?;
             push_ids(out, reclaimed.as_slice())?;
-            push_word(out, "kept")?;
+            out.push_str(" kept")?;
             push_ids(out, kept.as_slice())
         }
         Reply::Stats(stats) => push_stats(out, stats),
         Reply::Misuse(misuse) => {
-            push_word(out, "misuse")?;
+            out.push_str(" misuse")?;
             push_number(out, u64::from(misuse.number()))?;
             push_word(out, misuse_word(*misuse))
         }
