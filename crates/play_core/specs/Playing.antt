@@ -1,6 +1,7 @@
 -- How a script is played
-use Rattle.std.specs.Prelude.{◌≡◌, ◌==◌, ℕ, List, [], ◌∷◌, map, filter, take, slice_get, Some}
+use Rattle.std.specs.Prelude.{◌≡◌, ◌==◌, ◌≤◌, ℕ, Bool, List, [], ◌∷◌, length, map, filter, take, slice_get, get_or, false, Some}
 use Rattle.std.specs.List.{list_any}
+use Rattle.az_base.specs.declared.numbers.TheConstants.{MOST_THREADS}
 use Rattle.zone_history.specs.Histories.{Request}
 use Rattle.heap_script.specs.declared.line.Line.{Line}
 use Rattle.heap_script.specs.declared.script.Script.{Script}
@@ -16,6 +17,11 @@ requests lines = map (λ line. (line.thread, line.act)) lines
 -- what a script asks its threads for, in the order of its lines
 abbrev pub requests_of : Script → List Request
 requests_of script = requests script.lines
+
+-- at each number up to the most of a thread, whether a line is that thread's
+pub record AreAsked (lines : List Line) (asked : List Bool) : Type 0 where
+  pub count : length asked ≡ 17
+  pub at : (t : ℕ) → t ≤ MOST_THREADS → get_or asked t false ≡ list_any (λ line. line.thread == t) lines
 
 -- what is asked for was played, one turn after another, each of a thread whose part is told by its entries
 abbrev pub Turns : Seen → List Request → Seen → Type 0

@@ -1,13 +1,12 @@
 //! A whole script, played by a world.
-ghost use Rattle.std.specs.Prelude.{◌≡◌, ◌==◌, [], ◌∷◌, ◌++◌, true, filter, All, IfOk, OnOk};
-ghost use Rattle.std.specs.List.{list_any};
+ghost use Rattle.std.specs.Prelude.{◌≡◌, [], ◌∷◌, ◌++◌, true, All, IfOk, OnOk, if◌then◌else◌};
 ghost use Rattle.az_base.specs.OptionRanges.{IsValid};
 ghost use Rattle.call_words.specs.Ranges.{IsNamed};
 ghost use Rattle.heap_script.specs.Scripts.{AllNamed};
 ghost use Rattle.zone_history.specs.Histories.{IsHistoryOf, is_asked};
 ghost use Rattle.play_order.specs.Play.{IsPlayOf, IsProper, threads_of as asked_threads};
 ghost use Rattle.play_order.specs.Playing.{SoFar};
-ghost use Rattle.play_core.specs.Playing.{PlaysLine, CanPlay, requests, requests_of};
+ghost use Rattle.play_core.specs.Playing.{AreAsked, PlaysLine, CanPlay, requests, requests_of};
 ghost use Rattle.play_core.specs.Worlds.{seen};
 
 use crate::collecting::collect;
@@ -24,18 +23,22 @@ pub struct Recording {
     pub stats: Stats,
 }
 
-/// Whether a line is the thread's.
-fn has_line(lines: &[Line], thread: ThreadNo) -> bool
-    ensures { result ≡ list_any (λ line. line.thread == thread) lines.now }
+/// For each number up to the most of a thread, whether a line is that thread's. O(lines).
+fn asked(lines: &[Line]) -> [bool; 17]
+    ensures { AreAsked lines.now result }
 {
-    lines.iter().any(|line| line.thread == thread)
+    let mut asked = [false; 17];
+    for line in lines {
+        asked[line.thread.get() as usize] = true;
+    }
+    asked
 }
 
 /// The thread goes behind the others where it is asked for something.
-fn add_asked(threads: &mut Vec<ThreadNo>, lines: &[Line], thread: ThreadNo) -> Result<(), NoMemory>
-    ensures { OnOk result (threads.new.items ≡ threads.old.items ++ filter (is_asked (requests lines.now)) (thread ∷ [])) }
+fn add_asked(threads: &mut Vec<ThreadNo>, is_asked: bool, thread: ThreadNo) -> Result<(), NoMemory>
+    ensures { OnOk result (threads.new.items ≡ threads.old.items ++ (if is_asked then thread ∷ [] else [])) }
 {
-    if has_line(lines, thread) {
+    if is_asked {
         threads.push(thread)?;
     }
     Ok(())
@@ -45,12 +48,13 @@ fn add_asked(threads: &mut Vec<ThreadNo>, lines: &[Line], thread: ThreadNo) -> R
 pub fn threads_of(alloc: Global, lines: &[Line]) -> Result<Vec<ThreadNo>, NoMemory>
     ensures { IfOk result (λ threads. threads.items ≡ asked_threads (requests lines.now)) }
 {
+    let asked = asked(lines);
     let mut threads = Vec::new(alloc);
     for n in 1..MOST_THREADS + 1 {
         let Some(thread) = ThreadNo::new(n) else {
             unreachable!();
         };
-        add_asked(&mut threads, lines, thread)?;
+        add_asked(&mut threads, asked[n as usize], thread)?;
     }
     Ok(threads)
 }
@@ -112,7 +116,7 @@ fn play_all(alloc: Global, world: &mut World, lines: &[Line]) -> Result<Stats, N
 }
 
 /// The history of a script, whose entries stand in the order of `play`, and the statistics of its end. The cost of the calls,
-/// and O(16) for each line.
+/// and O(1) for each line.
 pub fn play(alloc: Global, script: &Script) -> Result<Recording, NoMemory>
     requires options { IsValid script.now.options }
     requires named { AllNamed script.now.lines }
