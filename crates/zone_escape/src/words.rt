@@ -1,10 +1,13 @@
 //! The calls on words of escaped blocks.
-ghost use Rattle.std.specs.Prelude.{◌≡◌, IfOk, OnErr};
+ghost use Rattle.std.specs.Prelude.{◌≡◌, false, IfOk, OnErr};
+ghost use Rattle.std.specs.Option.{option_map_or};
+ghost use Rattle.zone_model.specs.Part.{is_in};
+ghost use Rattle.local_set.specs.LocalSets.{part_in};
 ghost use Rattle.zone_model.specs.declared.call.Call.TheVariants as call;
 ghost use Rattle.escape_plan.specs.Escapes.{KeepsCycle};
 ghost use Rattle.zone_escape.specs.Making.{CanMake, Makes, Stays};
 
-use crate::exposing::expose;
+use crate::exposing::{expose, is_own};
 use crate::receiving::receive;
 use az_base::{Class, Misuse, NoMemory, Reg};
 use local_set::Local;
@@ -36,6 +39,42 @@ pub fn load(
 /// WrongClass, ZoneFull or NoMemory, after which nothing has changed. O(1) expected, and O(words of the blocks that escape)
 /// expected.
 pub fn store(
+    alloc: Global,
+    local: &mut Local,
+    heap: &mut Heap,
+    into: Reg,
+    at: u32,
+    from: Reg,
+) -> Result<Reply, NoMemory>
+    requires { CanMake local.old heap.old (call.Store into at from) }
+    ensures ok { IfOk result (λ reply. Makes local.old local.new heap.old heap.new (call.Store into at from) reply) }
+    ensures err { OnErr result (Stays local.old local.new heap.old heap.new) }
+    ensures cycle { KeepsCycle heap.old heap.new }
+{
+    if is_own(local, local.register(from)) {
+        store_own(alloc, local, heap, into, at, from)
+    } else {
+        Ok(store_seen(local, heap, into, at, from))
+    }
+}
+
+/// The same of null or a block that has escaped: nothing escapes, and the heap finds what is wrong.
+fn store_seen(local: &Local, heap: &mut Heap, into: Reg, at: u32, from: Reg) -> Reply
+    requires can { CanMake local.now heap.old (call.Store into at from) }
+    requires seen { option_map_or (is_in (part_in local.now)) ((part_in local.now).registers from) false ≡ false }
+    ensures makes { Makes local.now local.now heap.old heap.new (call.Store into at from) result }
+    ensures cycle { KeepsCycle heap.old heap.new }
+{
+    let holder = local.register(into);
+    let value = local.register(from);
+    let Ok(reply) = heap.store(local.thread(), holder, at, value) else {
+        unreachable!()
+    };
+    reply
+}
+
+/// The same of a block of the thread's own: it escapes once nothing is wrong.
+fn store_own(
     alloc: Global,
     local: &mut Local,
     heap: &mut Heap,

@@ -16,7 +16,7 @@ use Rattle.zone_escape.proofs.Needs.{some_need}
 use Rattle.zone_escape.proofs.Shown.{is_out, is_shared, known, held, part, misused}
 use Rattle.zone_escape.proofs.Stored.{not_within, register_holds, store_tells, store_still, first_some, first_none, misuse_still, write_holds, write_room, write_options}
 use Rattle.zone_escape.proofs.OpenCycles.{both_keep, livened}
-use Rattle.zone_escape.proofs.words.store.Goals as goal
+use Rattle.zone_escape.proofs.words.store_own.Goals as goal
 
 pub word_misuse-requires : goal.word_misuse-requires
 word_misuse-requires c = record { given = holder_there c.args.local.now c.args.heap.now (call.Store c.args.into c.args.at c.args.from) c.requires c.args.into c.register.result c.register.ensures (not_within (part_in c.args.local.now) _ c.requires.shared) }
