@@ -1,9 +1,9 @@
 -- The first line and the first word, as code finds them from the front.
 use Rattle.std.proofs.lemmas.List.{nil_from_length, length-drop, take_all, drop-drop, get_or-drop}
-use Rattle.std.proofs.Common.{◌≡◌, sym, ℕ, zero, suc, ◌+◌, ◌-◌, ◌<◌, ◌≤◌, Bool, true, false, eqb, List, [], ◌∷◌, length, take, drop, get_or, refl, ap, ◌∙◌, arith}
+use Rattle.std.proofs.Common.{◌≡◌, sym, ℕ, zero, suc, ◌+◌, ◌-◌, ◌<◌, ◌≤◌, Bool, true, false, eqb, cond, List, [], ◌∷◌, length, take, drop, get_or, refl, ap, ◌∙◌, arith}
 use Rattle.std.proofs.lemmas.Bool.{eqb-true, eqb-false, cond-true, cond-false, true≢false}
 use Rattle.az_words.specs.Lines.{is_feed, onto_first, lines_of}
-use Rattle.az_words.specs.Words.{is_blank, words_of}
+use Rattle.az_words.specs.Words.{is_blank, ends_word, words_of}
 
 -- no byte before place n passes
 abbrev pub NoneBefore : (ℕ → Bool) → List ℕ → ℕ → Type 0
@@ -79,3 +79,21 @@ some_left xs b e f = let ne : length xs ≡ 0 → ⊥ = eqb-false (length xs) 0 
 
 pub none_left : (xs : List ℕ) (b : Bool) → b ≡ eqb (length xs) 0 → b ≡ true → xs ≡ []
 none_left xs b e f = nil_from_length xs (eqb-true (length xs) 0 (sym e ∙ f))
+
+-- the first word begins with the first byte that is not blank
+first_of : (b : ℕ) (goes : Bool) (words : List (List ℕ)) → (more : List ℕ) × (left : List (List ℕ)) × cond goes ((b ∷ []) ∷ words) (onto_first b words) ≡ (b ∷ more) ∷ left
+first_of b true words = ([], words, refl)
+first_of b false [] = ([], [], refl)
+first_of b false (word ∷ words) = (word, words, refl)
+
+first_here : (bs : List ℕ) → 1 ≤ length bs → is_blank (get_or bs 0 0) ≡ false → (more : List ℕ) × (left : List (List ℕ)) × words_of bs ≡ (get_or bs 0 0 ∷ more) ∷ left
+first_here [] some e = absurd (omega (arith, some))
+first_here (b ∷ bs) some e = let first = first_of b (ends_word bs) (words_of bs) in (first.0, first.1, cond-false (is_blank b) (words_of bs) _ e ∙ first.2)
+
+pub first_cut : (line rest : List ℕ) (a : ℕ) → rest ≡ drop a line → ((k : ℕ) → k < a → is_blank (get_or line k 0) ≡ true) → (a < length line → is_blank (get_or line a 0) ≡ false) → a ≤ length line → 1 ≤ length rest
+    → (more : List ℕ) × (left : List (List ℕ)) × words_of line ≡ (get_or rest 0 0 ∷ more) ∷ left
+first_cut line rest a r blanks here l some =
+    let len : length rest ≡ length line - a = ap length r ∙ length-drop a line in
+    let first : get_or rest 0 0 ≡ get_or line a 0 = ap (λ xs. get_or xs 0 0) r ∙ get_or-drop a line 0 0 ∙ ap (λ k. get_or line k 0) (omega arith) in
+    let is = first_here rest some (ap is_blank first ∙ here (omega arith)) in
+    (is.0, is.1, skip_blanks line a blanks ∙ ap words_of (sym r) ∙ is.2)

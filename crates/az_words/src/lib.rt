@@ -17,4 +17,4 @@ pub use lines::next_line;
 pub use numerals::{number, numeral, small_number};
 pub use parts::cut_at;
 pub use texts::is_text;
-pub use words::{Words, is_word, next_word};
+pub use words::{Words, first_byte, is_word, next_word};

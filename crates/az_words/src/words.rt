@@ -52,6 +52,18 @@ pub fn next_word(line: &[u8]) -> Option<(&[u8], &[u8])>
     Some((word, after))
 }
 
+/// The first byte of the first word of a line; None exactly where the line has no word. O(blanks at its front).
+pub fn first_byte(line: &[u8]) -> Option<u8>
+    ensures some { IfSome result (λ byte. (more : List ℕ) × (left : List (List ℕ)) × (words_of line.now ≡ (byte ∷ more) ∷ left)) }
+    ensures none { IfNone result (words_of line.now ≡ []) }
+{
+    let (_, rest) = line.split_at(blanks(line));
+    match rest {
+        [byte, ..] => Some(*byte),
+        [] => None,
+    }
+}
+
 /// The words of a line that are still to be read. Contracts see them as a list.
 #[derive(Drop)]
 pub struct Words<'a> {

@@ -11,7 +11,7 @@ ghost use Rattle.heap_script.specs.Reading.Scripts.{Gives, no_more, line_of, set
 use crate::cause::{Cause, LineErr};
 use crate::line::Line;
 use crate::setting::Setting;
-use az_words::{Words, is_text, is_word, next_word};
+use az_words::{Words, first_byte, is_text, is_word, next_word};
 use call_words::{
     CallName, OptionName, arguments, call_name, next_number, next_option, next_thread,
     next_wide_number,
@@ -119,10 +119,9 @@ fn after_option(called: bool, line: &[u8]) -> Option<&[u8]>
 fn is_skipped(line: &[u8]) -> bool
     ensures { result ≡ is_skipped (words_of line.now) }
 {
-    match next_word(line) {
+    match first_byte(line) {
         None => true,
-        Some(([b'#', ..], _)) => true,
-        Some(_) => false,
+        Some(byte) => byte == b'#',
     }
 }
 
