@@ -1,11 +1,11 @@
 //! Two sessions of one zone by turns: what each call answers, and what the zone has at its end.
-ghost use Rattle.std.specs.Prelude.{◌≡◌, false};
+ghost use Rattle.std.specs.Prelude.{◌≡◌, IfSome, false};
 ghost use Rattle.zone_model.specs.History.{is_cycle_step};
 ghost use Rattle.zone_escape.specs.Publications.{is_leave};
 ghost use Rattle.zone_gate.specs.Shown.{IsSeatOf};
 
 use crate::zones::{closed_by_two, zone_of_two};
-use auto_zone::{Closed, Session, Zone};
+use auto_zone::{Closed, Ended, Session, Zone};
 use az_base::{BlockId, Mode, Reg, RootNo};
 use block_layouts::Layout;
 use std::alloc::Global;
@@ -193,25 +193,31 @@ fn are_rows<R: Wait>(
     true
 }
 
-/// Both leave, and the zone is closed; None where memory runs out.
-fn left<R: Wait>(rt: &R, alloc: Global, zone: Zone, one: Session, two: Session) -> Option<Closed>
-    requires { IsSeatOf zone one.seat × IsSeatOf zone two.seat }
+/// Both leave; None where memory runs out.
+fn both_leave<R: Wait>(
+    rt: &R,
+    alloc: Global,
+    zone: &Zone,
+    one: Session,
+    two: Session,
+) -> Option<(Ended, Ended)>
+    requires { IsSeatOf zone.now one.seat × IsSeatOf zone.now two.seat }
+    ensures { IfSome result (λ r. IsSeatOf zone.now r.0 × IsSeatOf zone.now r.1) }
 {
-    let Ok(one) = one.leave(rt, alloc, &zone) else {
-        return None;
-    };
-    let Ok(two) = two.leave(rt, alloc, &zone) else {
-        return None;
-    };
-    closed_by_two(alloc, zone, one, two)
+    match (one.leave(rt, alloc, zone), two.leave(rt, alloc, zone)) {
+        (Ok(one), Ok(two)) => Some((one, two)),
+        _ => None,
+    }
 }
 
 /// What is left of a zone in which threads 1 and 2 answer so and then leave; None where they answer otherwise.
 fn played<R: Wait>(rt: &R, alloc: Global, rows: &[Row]) -> Option<Closed> {
     let (zone, mut one, mut two) = zone_of_two(alloc)?;
     let answered = are_rows(rt, alloc, &zone, &mut one, &mut two, rows);
-    let closed = left(rt, alloc, zone, one, two)?;
-    if answered { Some(closed) } else { None }
+    match both_leave(rt, alloc, &zone, one, two) {
+        Some((one, two)) if answered => closed_by_two(alloc, zone, one, two),
+        _ => None,
+    }
 }
 
 /// Whether the entries are of these threads, in this order.

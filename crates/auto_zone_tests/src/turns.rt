@@ -4,7 +4,7 @@ ghost use Rattle.std.specs.Prelude.{◌≡◌, IfOk, IfSome};
 ghost use Rattle.zone_gate.specs.Shown.{IsSeatOf};
 
 use crate::zones::{closed_by_two, zone_of_two};
-use auto_zone::{Ended, Session, Zone};
+use auto_zone::{Closed, Ended, Session, Zone};
 use az_base::{Mode, NoMemory, Reg, RootNo};
 use block_layouts::Layout;
 use std::alloc::Global;
@@ -162,23 +162,24 @@ fn both_collect<R: Threads + Wait + Sync>(
     }
 }
 
+/// What is left of a zone with a chain that two threads have collected beside each other.
+fn collected<R: Threads + Wait + Sync>(rt: &R, alloc: Global, seen: &AtomicBool) -> Option<Closed> {
+    let (zone, mut one, two) = zone_of_two(alloc)?;
+    let begun = has_chain(rt, alloc, &zone, &mut one);
+    match both_collect(rt, alloc, &zone, one, two, seen) {
+        Some((one, two)) if begun => closed_by_two(alloc, zone, one, two),
+        _ => None,
+    }
+}
+
 /// Whether one of two threads that collect a chain in slices of one scan finds the other's collection open, and the chain
 /// is still there at the end.
 fn find_each_other<R: Threads + Wait + Sync>(rt: &R, alloc: Global) -> bool {
-    let Some((zone, mut one, two)) = zone_of_two(alloc) else {
-        return false;
-    };
-    if !has_chain(rt, alloc, &zone, &mut one) {
-        return false;
-    }
     let seen = AtomicBool::new(false);
-    let Some((one, two)) = both_collect(rt, alloc, &zone, one, two, &seen) else {
-        return false;
-    };
-    let Some(closed) = closed_by_two(alloc, zone, one, two) else {
-        return false;
-    };
-    seen.load(SeqCst) && closed.stats.blocks == CHAIN as u64
+    match collected(rt, alloc, &seen) {
+        Some(closed) => seen.load(SeqCst) && closed.stats.blocks == CHAIN as u64,
+        None => false,
+    }
 }
 
 #[test]
