@@ -4,11 +4,15 @@
 #[cfg(test)]
 mod collections;
 #[cfg(test)]
+mod crowds;
+#[cfg(test)]
 mod finaliser_rows;
 #[cfg(test)]
 mod generation_rows;
 #[cfg(test)]
 mod heap_rows;
+#[cfg(test)]
+mod paces;
 #[cfg(test)]
 mod runs;
 #[cfg(test)]

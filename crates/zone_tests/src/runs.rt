@@ -83,9 +83,11 @@ fn a_script_that_is_none_is_refused_before_it_runs(rt: HostRuntime) -> Result<()
 
 #[test]
 fn each_of_two_threads_does_its_lines_in_order(rt: HostRuntime) -> Result<(), Fail> {
-    let script = "1 new r0 scanned 0\n2 new r0 scanned 0\n1 setroot g0 r0\n2 setroot g1 r0\n";
+    let script =
+        "2 new r0 scanned 0\n1 new r0 scanned 1\n1 store r0 0 r0\n2 setroot g1 r0\n1 setroot g0 r0\n";
     let first = [
-        "1 new r0 scanned 0 = 1.0",
+        "1 new r0 scanned 1 = 1.0",
+        "1 store r0 0 r0 = ok",
         "1 setroot g0 r0 = ok",
         "1 leave = reclaimed none",
     ];
@@ -94,7 +96,7 @@ fn each_of_two_threads_does_its_lines_in_order(rt: HostRuntime) -> Result<(), Fa
         "2 setroot g1 r0 = ok",
         "2 leave = reclaimed none",
     ];
-    let last = "end entries 6 blocks 2 quanta 2 retained 0 weak 0 assocs 0";
+    let last = "end entries 7 blocks 2 quanta 2 retained 0 weak 0 assocs 0";
     let found = two_threads(&Host::of(&rt, rt.alloc()), script, &first, &second, last)?;
     assert!(rt; found);
     Ok(())

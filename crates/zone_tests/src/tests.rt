@@ -1,9 +1,10 @@
 use az_outside::{MemorySink, MemorySource};
+use run_zone::Pace;
 use std::alloc::Global;
 use std::sync::Wait;
 use std::test::*;
 use std::thread::Threads;
-use zone_commands::{Status, autozone};
+use zone_commands::{Status, autozone, run_command};
 
 const FIRST: &str = "1 new r0 scanned 2\n";
 
@@ -47,6 +48,14 @@ fn source(alloc: Global, script: &[u8], failing: u64) -> Result<MemorySource, Fa
 pub fn sink(alloc: Global, failing: u64) -> Result<MemorySink, Fail> {
     let turns = vec![in alloc; failing]?;
     match MemorySink::new(alloc, 10, turns, 200_000) {
+        Ok(sink) => Ok(sink),
+        Err(_) => Err(Fail::from("no memory")),
+    }
+}
+
+/// A sink that takes 64 KiB at each turn, and holds the text of the longest script.
+pub fn big_sink(alloc: Global) -> Result<MemorySink, Fail> {
+    match MemorySink::new(alloc, 65_536, Vec::new(alloc), 8_000_000) {
         Ok(sink) => Ok(sink),
         Err(_) => Err(Fail::from("no memory")),
     }
@@ -149,6 +158,20 @@ pub fn ran<R: Threads + Wait + Sync>(
     };
     let mut err = sink(rt.alloc(), 0)?;
     let status = run(rt, given, out, &mut err)?;
+    Ok(status == Status::Done && err.bytes().is_empty())
+}
+
+/// Whether a run of the script by threads, with this pace, ends with Done, and nothing is said.
+pub fn ran_at<R: Threads + Wait + Sync, P: Pace + Sync>(
+    rt: &Host<'_, R>,
+    script: &str,
+    out: &mut MemorySink,
+    pace: &P,
+) -> Result<bool, Fail> {
+    let alloc = rt.alloc();
+    let mut source = source(alloc, script.as_bytes(), 0)?;
+    let mut err = sink(alloc, 0)?;
+    let status = run_command(rt.rt, alloc, &mut source, out, &mut err, pace);
     Ok(status == Status::Done && err.bytes().is_empty())
 }
 
