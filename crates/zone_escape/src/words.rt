@@ -58,7 +58,7 @@ pub fn store(
     }
 }
 
-/// The same of null or a block that has escaped: nothing escapes, and the heap finds what is wrong.
+/// A store of null or of a block that has escaped: nothing escapes, and the heap finds what is wrong.
 fn store_seen(local: &Local, heap: &mut Heap, into: Reg, at: u32, from: Reg) -> Reply
     requires can { CanMake local.now heap.old (call.Store into at from) }
     requires seen { option_map_or (is_in (part_in local.now)) ((part_in local.now).registers from) false ≡ false }
@@ -73,7 +73,7 @@ fn store_seen(local: &Local, heap: &mut Heap, into: Reg, at: u32, from: Reg) -> 
     reply
 }
 
-/// The same of a block of the thread's own: it escapes once nothing is wrong.
+/// A store of a block of the thread's own, which escapes with all that it leads to once nothing is wrong.
 fn store_own(
     alloc: Global,
     local: &mut Local,
