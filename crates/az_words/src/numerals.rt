@@ -67,7 +67,7 @@ pub fn number(low: u64, high: u64, word: &[u8]) -> Option<u64>
     if low <= n && n <= high { Some(n) } else { None }
 }
 
-/// The same in a range of numbers of 32 bits.
+/// The value of a numeral from `low` to `high`, as a number of 32 bits; None exactly where the word is none.
 #[tactic(auto, unfolding(crate::specs::Numerals::number_in, crate::specs::Numerals::within))]
 pub fn small_number(low: u32, high: u32, word: &[u8]) -> Option<u32>
     ensures value { result ≡ number_in low high word.now }

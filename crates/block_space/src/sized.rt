@@ -165,7 +165,7 @@ impl SizedRegion {
         }
     }
 
-    /// The same, as the layout tells it; 0 where no block begins.
+    /// The length of the block that begins at a quantum, as its layout tells it; 0 where none begins.
     #[cold]
     #[inline(never)]
     fn len_told(&self, at: usize) -> u32
@@ -201,7 +201,7 @@ impl SizedRegion {
         self.region.word(at, i)
     }
 
-    /// The same, for who knows how many words a quantum has. O(1).
+    /// A word of the block that begins at a quantum, for who knows how many words a quantum has. O(1).
     pub fn word_by(&self, width: usize, at: usize, i: usize) -> PlacedWord
         requires width { width ≡ self.now.width }
         requires word { HasWord self.now at i }

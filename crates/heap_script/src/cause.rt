@@ -55,7 +55,7 @@ pub enum LineErr {
 }
 
 impl LineErr {
-    /// The same of the whole script, whose line has this number.
+    /// Why the script was not read whose line has this number.
     pub fn at_line(self, line: u32) -> ScriptErr
         ensures { result ≡ err_at line self }
     {

@@ -256,7 +256,7 @@ impl Blocks {
         }
     }
 
-    /// The same, where what was noted before a refusal stays noted.
+    /// Notes what each of these blocks refers to. What was noted before a refusal stays noted.
     fn note_each(&mut self, gone: &[BlockId]) -> Result<(), NoMemory>
         requires { AreThere self.old.list gone.now }
         ensures list { self.new.list ≡ self.old.list }
@@ -320,7 +320,7 @@ impl Blocks {
         Ok(IdList::from_vec(ids))
     }
 
-    /// The same in no special order.
+    /// The blocks that aren't among these, in no special order.
     fn unsorted_but(
         &self,
         alloc: Global,

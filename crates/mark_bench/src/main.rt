@@ -170,7 +170,7 @@ fn work<G: Filled>(
 /// The graph is not needed any more.
 fn end<G: Drop>(_graph: G) {}
 
-/// The same over a space of its own.
+/// Marks the graph in a space of its own.
 fn play_space(rt: &HostRuntime, name: &str, count: u32, millis: u64) -> Option<Best> {
     let mut graph = SpaceGraph::new(rt.alloc());
     let best = work(rt, &mut graph, name, count, millis);
@@ -178,7 +178,7 @@ fn play_space(rt: &HostRuntime, name: &str, count: u32, millis: u64) -> Option<B
     best
 }
 
-/// The same over tables of its own.
+/// Marks the graph in the tables of a heap.
 fn play_heap(rt: &HostRuntime, name: &str, count: u32, millis: u64) -> Option<Best> {
     let Ok(mut tables) = Tables::new(rt.alloc()) else {
         return None;
@@ -188,7 +188,7 @@ fn play_heap(rt: &HostRuntime, name: &str, count: u32, millis: u64) -> Option<Be
     best
 }
 
-/// The same over what has this name.
+/// Marks the graph in what has this name.
 fn play(rt: &HostRuntime, over: &str, name: &str, count: u32, millis: u64) -> Option<Best> {
     if over == "heap" {
         play_heap(rt, name, count, millis)

@@ -272,7 +272,8 @@ impl Region {
         self.words[at * self.width + i]
     }
 
-    /// The same, for who knows how many words a quantum has: the place of a word by a constant costs no multiplication. O(1).
+    /// A word of the block that begins at a quantum, for who knows how many words a quantum has: its place by a constant
+    /// costs no multiplication. O(1).
     pub fn word_by(&self, width: usize, at: usize, i: usize) -> PlacedWord
         requires width { width ≡ self.now.width }
         requires word { HasWord self.now at i }

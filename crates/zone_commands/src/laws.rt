@@ -29,7 +29,7 @@ pub fn texts_are_read_as_played()
     texts_are_read_back();
 }
 
-/// The same of the text of a script that threads ran.
+/// The text that is written for a script that threads ran is read by `read_text` as the history that they made.
 pub fn texts_are_read_as_run()
     ensures { TextsAreReadAsRun }
 {

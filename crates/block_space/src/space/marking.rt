@@ -344,7 +344,7 @@ impl Space {
         }
     }
 
-    /// The same. It is made once for each kind, so that the kind is not asked for each word.
+    /// Visits the words of a block of one kind. It is compiled once for each kind, so that no word asks for it.
     #[inline(always)]
     fn visit_from(&mut self, spot: Spot, from: u32, mode: Mode, stack: &mut Greys) -> Option<u32>
         requires { HasBlockIn self.old spot }

@@ -59,7 +59,7 @@ impl SpaceGraph {
         }
     }
 
-    /// The same of one block, if it is there.
+    /// No word of the block, if it is there, knows any more where a block lies.
     fn forget_one(&mut self, id: BlockId)
         ensures less { KnowsLess self.old self.new }
         ensures none { (x : ASpot) → spot_for self.old.rows id ≡ Some x → KnowsNothing self.new.space x (len_in self.old.space x) }
