@@ -15,6 +15,7 @@ use heap_tables::Tables;
 use write_barrier::on_store;
 
 /// While the cycle marks, the block is enlivened. O(1) expected.
+#[inline(always)]
 pub fn enliven(tables: &mut Tables, cycle: &mut Option<OpenCycle>, value: Option<BlockId>)
     requires { Collects tables.old cycle.old }
     ensures collects { Collects tables.new cycle.new }
@@ -99,6 +100,7 @@ pub fn remember(
 }
 
 /// A word or an association of a block is about to refer to the value: all that is told for it.
+#[inline(always)]
 pub fn tell_store(
     tables: &mut Tables,
     cycle: &mut Option<OpenCycle>,
@@ -119,6 +121,7 @@ pub fn tell_store(
 }
 
 /// Whether the block is old. O(1) expected.
+#[inline(always)]
 pub fn is_old(tables: &Tables, id: BlockId) -> bool
     ensures { result ≡ is_old_at tables.now.blocks.blocks id }
 {

@@ -43,6 +43,7 @@ fn flush_and_wait(
 }
 
 /// The thread makes the call. At most the cost of the call, twice looked at, and of what it publishes.
+#[inline(always)]
 pub fn turn(
     alloc: Global,
     local: &mut Local,

@@ -121,6 +121,7 @@ impl World {
     /// The thread makes the call, which it may make (`may`). NoMemory leaves all as it was, or what waited of the thread was
     /// published and nothing else has happened. Once a cycle has begun, its Condemn, each Finalise and its Reclaim are never
     /// refused where nothing waits. O(threads) beside the call, and what it publishes.
+    #[inline(always)]
     pub fn step(&mut self, alloc: Global, thread: ThreadNo, call: &Call) -> Result<Reply, NoMemory>
         requires running { is_running self.old thread ≡ true }
         requires may { AtEnd self.old (λ z. May z thread call.now) }

@@ -43,6 +43,7 @@ fn stats(_local: &Local, heap: &Heap) -> Reply
 }
 
 /// Makes a call of which the reply has no list.
+#[inline(always)]
 fn make_plain(
     alloc: Global,
     local: &mut Local,
@@ -91,6 +92,7 @@ fn make_plain(
 }
 
 /// Makes a call that is no step of a cycle and isn't local, of a thread of which nothing waits.
+#[inline(always)]
 fn make(alloc: Global, local: &mut Local, heap: &mut Heap, call: &Call) -> Result<Answer, NoMemory>
     requires can { CanMake local.old heap.old call.now }
     requires built { is_cycle_step call.now ≡ false }

@@ -102,6 +102,7 @@ impl Heap {
     /// Writes a Strong word. While a cycle marks, the block that is stored is enlivened; the one into which it is stored
     /// is remembered where it is old and the stored one young, or where that one is condemned. O(1) expected, and
     /// O(cards) where a block is remembered.
+    #[inline(always)]
     pub fn store(
         &mut self,
         t: ThreadNo,
