@@ -39,7 +39,7 @@ returns-clause-makes c =
       (λ id n. nothing_escapes h z (z.registers l.thread c.args.from) t.heap from id n.1),
       store_still z l.thread c.args.into c.args.at c.args.from r into,
       e.step z c.args.into c.args.from (runs l h the_call can c.thread.result c.thread.ensures z t) (closed z t.heap.sound) (in_register l h the_call can c.thread.result c.thread.ensures c.args.into a c.register-holder.ensures z t)
-      (in_register l h the_call can c.thread.result c.thread.ensures c.args.from v c.register-value.ensures z t),
+          (in_register l h the_call can c.thread.result c.thread.ensures c.args.from v c.register-value.ensures z t),
     ))
 
 pub returns-clause-cycle : goal.returns-clause-cycle
