@@ -116,6 +116,15 @@ impl SpaceGraph {
         }
     }
 
+    /// A hint where a block lies, found by one look-up for several calls that take one; 0 where it isn't there. O(1)
+    /// expected.
+    pub fn hint_for(&self, id: BlockId) -> u32 {
+        match self.rows.find(id) {
+            Some(spot) => hint_of(spot),
+            None => 0,
+        }
+    }
+
     /// Whether the block is there, and isn't young. It isn't looked up where the hint is right.
     pub fn is_old(&self, id: BlockId, hint: u32) -> bool
         ensures { result ≡ is_some (spot_for self.now.rows id) && not ((shape_of self.now).young id) }
