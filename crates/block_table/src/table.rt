@@ -139,11 +139,11 @@ impl BlockTable {
         self.graph.begin();
     }
 
-    /// The class of a word of a block, where both are there.
-    pub fn class_at(&self, id: BlockId, at: u32) -> Option<Class>
+    /// The class of a word of a block, where both are there. The block isn't looked up where the hint is right.
+    pub fn class_at(&self, id: BlockId, at: u32, hint: u32) -> Option<Class>
         ensures { result ≡ option_and_then (λ k. class_at k.layout at) (get self.now.blocks id) }
     {
-        match self.graph.find(id) {
+        match self.graph.find_near(id, hint) {
             Some(spot) => reading::class_at(self.graph.space(), spot, at),
             None => None,
         }
@@ -152,6 +152,11 @@ impl BlockTable {
     /// A hint where the block at a position lies, for the calls that take one. O(1).
     pub fn hint(&self, n: u32) -> u32 {
         self.graph.hint(n)
+    }
+
+    /// A hint where a block lies, for several calls that take one: it is looked up once for all of them.
+    pub fn hint_for(&self, id: BlockId) -> u32 {
+        self.graph.hint_for(id)
     }
 
     /// How many words the block has, at most 4,096; 0 where it isn't there. It isn't looked up where the hint is right.
@@ -165,25 +170,25 @@ impl BlockTable {
         }
     }
 
-    /// A word of a block, where both are there.
-    pub fn word(&self, id: BlockId, at: u32) -> Option<Word>
+    /// A word of a block, where both are there. The block isn't looked up where the hint is right.
+    pub fn word(&self, id: BlockId, at: u32, hint: u32) -> Option<Word>
         ensures word { result ≡ option_and_then (λ k. slice_get k.words at) (get self.now.blocks id) }
         ensures whole { IfSome (get self.now.blocks id) IsWhole }
     {
-        match self.graph.find(id) {
+        match self.graph.find_near(id, hint) {
             Some(spot) => reading::word_at(self.graph.space(), spot, at),
             None => None,
         }
     }
 
-    /// Another word of a block.
-    pub fn set_word(&mut self, id: BlockId, at: u32, word: Word)
+    /// Another word of a block. It isn't looked up where the hint is right.
+    pub fn set_word(&mut self, id: BlockId, at: u32, word: Word, hint: u32)
         requires { MatchOption (get self.old.blocks id) ⊥ (λ k. FitsAt k.layout at word) }
         ensures { self.new ≡ record self.old { blocks = with_edit self.old.blocks id (λ k. record k { words = slice_set k.words at word }) } }
     {
         self.graph.is_graph();
         self.graph.space().is_sound();
-        let Some(spot) = self.graph.find(id) else {
+        let Some(spot) = self.graph.find_near(id, hint) else {
             unreachable!()
         };
         self.graph.set_word(spot, at, word);

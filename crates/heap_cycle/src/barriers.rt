@@ -68,12 +68,13 @@ fn enliven_word(tables: &mut Tables, cycle: &mut Option<OpenCycle>, word: Word)
 }
 
 /// A block is about to refer to the value: it is remembered where it is old and the value isn't, or where the value is
-/// condemned. O(log condemned), and O(cards) where it is remembered.
+/// condemned. The block isn't looked up where the hint is right. O(log condemned), and O(cards) where it is remembered.
 pub fn remember(
     tables: &mut Tables,
     cycle: &Option<OpenCycle>,
     into: BlockId,
     value: Option<BlockId>,
+    hint: u32,
 )
     requires collects { Collects tables.old cycle.now }
     requires there { Has tables.old.blocks.order into }
@@ -88,7 +89,7 @@ pub fn remember(
     };
     let phase = phase_of(cycle);
     let condemned = is_condemned(cycle, value);
-    let old = is_old(tables, into);
+    let old = is_old_near(tables, into, hint);
     // Whether the value is old counts only where the other one is.
     let value_old = old && is_old(tables, value);
     let effect = on_store(phase, old, value_old, condemned);
@@ -99,13 +100,15 @@ pub fn remember(
     }
 }
 
-/// A word or an association of a block is about to refer to the value: all that is told for it.
+/// A word or an association of a block is about to refer to the value: all that is told for it. The block isn't looked up
+/// where the hint is right.
 #[inline(always)]
 pub fn tell_store(
     tables: &mut Tables,
     cycle: &mut Option<OpenCycle>,
     into: BlockId,
     value: Option<BlockId>,
+    hint: u32,
 )
     requires collects { Collects tables.old cycle.old }
     requires there { Has tables.old.blocks.order into }
@@ -117,7 +120,7 @@ pub fn tell_store(
 {
     let value = &value;
     enliven(tables, cycle, *value);
-    remember(tables, cycle, into, *value);
+    remember(tables, cycle, into, *value, hint);
 }
 
 /// Whether the block is old. O(1) expected.

@@ -12,7 +12,7 @@ impl Tables {
     fn referent(&self, id: BlockId, at: u32) -> Option<BlockId>
         ensures { result ≡ option_and_then in_word (slice_get (words_in self.now.blocks.blocks id) at) }
     {
-        match self.blocks.word(id, at) {
+        match self.blocks.word(id, at, 0) {
             Some(word) => in_word(word),
             None => None,
         }

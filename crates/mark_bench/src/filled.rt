@@ -87,8 +87,9 @@ fn room_for(tables: &mut Tables, alloc: Global, layout: &Layout) -> Result<Vec<W
 
 /// A Strong word of a block refers to a block from now on.
 fn set(tables: &mut Tables, id: BlockId, at: u32, to: BlockId) {
-    if tables.blocks.class_at(id, at) == Some(Class::Strong) {
-        tables.blocks.set_word(id, at, Word::Block(to));
+    let hint = tables.blocks.hint_for(id);
+    if tables.blocks.class_at(id, at, hint) == Some(Class::Strong) {
+        tables.blocks.set_word(id, at, Word::Block(to), hint);
     }
 }
 

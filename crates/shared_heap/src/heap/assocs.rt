@@ -46,7 +46,7 @@ impl Heap {
         };
         reserve_value(&mut self.tables.assocs, object, &value)?;
         self.tables.are_tables();
-        tell_store(&mut self.tables, &mut self.open_cycle, object, value);
+        tell_store(&mut self.tables, &mut self.open_cycle, object, value, 0);
         let Ok(before) = self.tables.assocs.set(object, key, value) else {
             unreachable!()
         };

@@ -55,14 +55,28 @@ fn number(word: Word) -> u64
 }
 
 impl Heap {
+    /// A hint where the block lies, for the calls that take one: it is looked up once for all of them. O(1) expected.
+    fn hint_for(&self, id: &Option<BlockId>) -> u32 {
+        match id {
+            Some(id) => self.tables.blocks.hint_for(*id),
+            None => 0,
+        }
+    }
+
     /// The block whose word of this class stands at the place, or what is wrong.
-    fn find_word(&self, id: Option<BlockId>, at: u32, class: Class) -> Result<BlockId, Misuse>
+    fn find_word(
+        &self,
+        id: Option<BlockId>,
+        at: u32,
+        class: Class,
+        hint: u32,
+    ) -> Result<BlockId, Misuse>
         ensures { Finds self.now id at class result }
     {
         let Some(id) = id else {
             return Err(Misuse::NullBlock);
         };
-        match self.tables.blocks.class_at(id, at) {
+        match self.tables.blocks.class_at(id, at, hint) {
             None => Err(Misuse::NoWord),
             Some(found) if found == class => Ok(id),
             Some(_) => Err(Misuse::WrongClass),
@@ -76,7 +90,7 @@ impl Heap {
         ensures value { result ≡ word_misuse self.now id at class }
         ensures stands { (z : State) (t : ℕ) (c : Call) (reg : ℕ) → Stands self.now z → z.registers t reg ≡ id → NeedsWord z t c reg at class → result ≡ first_three z t c }
     {
-        self.find_word(id, at, class).err()
+        self.find_word(id, at, class, 0).err()
     }
 
     /// Reads a Strong word into a register of the thread: the thread holds what it gets once more. NoMemory too where it
@@ -89,10 +103,12 @@ impl Heap {
         ensures step { IfOk result (λ r. (z : State) (to reg : ℕ) → Runs self.old z t → z.registers t reg ≡ from → Stepped self.new z t (call.Load to reg at) r) }
         ensures err { OnErr result (self.new ≡ self.old) }
     {
-        match self.find_word(from, at, Class::Strong) {
+        let from = &from;
+        let hint = self.hint_for(from);
+        match self.find_word(*from, at, Class::Strong, hint) {
             Err(misuse) => Ok(Reply::Misuse(misuse)),
             Ok(id) => {
-                let value = self.referent_at(id, at);
+                let value = self.referent_at(id, at, hint);
                 self.hold_more(t, &value)?;
                 Ok(Reply::Block(value))
             }
@@ -118,13 +134,15 @@ impl Heap {
         ensures gc { IfOk result (λ r. AfterBarrier self.old.gc self.new.gc r (of_option value) (of_option into)) }
         ensures step { IfOk result (λ r. (z : State) (reg from : ℕ) → Runs self.old z t → EscapedClosed z → z.registers t reg ≡ into → z.registers t from ≡ value → Stepped self.new z t (call.Store reg at from) r) }
     {
+        let into = &into;
         let value = &value;
-        match self.find_word(into, at, Class::Strong) {
+        let hint = self.hint_for(into);
+        match self.find_word(*into, at, Class::Strong, hint) {
             Err(misuse) => Ok(Reply::Misuse(misuse)),
             Ok(id) => {
                 self.tables.are_tables();
-                tell_store(&mut self.tables, &mut self.open_cycle, id, *value);
-                self.tables.blocks.set_word(id, at, reference(*value));
+                tell_store(&mut self.tables, &mut self.open_cycle, id, *value, hint);
+                self.tables.blocks.set_word(id, at, reference(*value), hint);
                 Ok(Reply::Done)
             }
         }
@@ -137,11 +155,15 @@ impl Heap {
         ensures value { self.new ≡ after_write self.old into at (words.Number number) result }
         ensures step { (z : State) (reg : ℕ) → Runs self.old z t → z.registers t reg ≡ into → Stepped self.new z t (call.Put reg at number) result }
     {
-        match self.find_word(into, at, Class::Plain) {
+        let into = &into;
+        let hint = self.hint_for(into);
+        match self.find_word(*into, at, Class::Plain, hint) {
             Err(misuse) => Reply::Misuse(misuse),
             Ok(id) => {
                 self.tables.are_tables();
-                self.tables.blocks.set_word(id, at, Word::Number(number));
+                self.tables
+                    .blocks
+                    .set_word(id, at, Word::Number(number), hint);
                 Reply::Done
             }
         }
@@ -153,28 +175,30 @@ impl Heap {
         ensures reply { result ≡ reply_or (word_misuse self.now from at class.Plain) (reply.Number (number_in (word_in self.now from at))) }
         ensures step { (z : State) (reg : ℕ) → Runs self.now z t → z.registers t reg ≡ from → Stepped self.now z t (call.Get reg at) result }
     {
-        match self.find_word(from, at, Class::Plain) {
+        let from = &from;
+        let hint = self.hint_for(from);
+        match self.find_word(*from, at, Class::Plain, hint) {
             Err(misuse) => Reply::Misuse(misuse),
-            Ok(id) => Reply::Number(self.number_at(id, at)),
+            Ok(id) => Reply::Number(self.number_at(id, at, hint)),
         }
     }
 
     /// The block to which a word of a block refers.
-    fn referent_at(&self, id: BlockId, at: u32) -> Option<BlockId>
+    fn referent_at(&self, id: BlockId, at: u32, hint: u32) -> Option<BlockId>
         ensures { result ≡ referent (word_in self.now (Some id) at) }
     {
-        match self.tables.blocks.word(id, at) {
+        match self.tables.blocks.word(id, at, hint) {
             Some(word) => referent(word),
             None => None,
         }
     }
 
     /// The number in a Plain word of a block.
-    fn number_at(&self, id: BlockId, at: u32) -> u64
+    fn number_at(&self, id: BlockId, at: u32, hint: u32) -> u64
         requires { class_in self.now id at ≡ Some class.Plain }
         ensures { word_in self.now (Some id) at ≡ Some (words.Number result) }
     {
-        match self.tables.blocks.word(id, at) {
+        match self.tables.blocks.word(id, at, hint) {
             Some(word) => number(word),
             None => unreachable!(),
         }

@@ -16,7 +16,7 @@ remember-requires c = room_for c.args.tables.now c.requires.collects.cards (subs
 pub returns-then-effect-clause-collects : goal.returns-then-effect-clause-collects
 returns-then-effect-clause-collects c =
     remembered_collects c.args.tables.now c.remember.new.self c.args.into (record { list = c.remember.ensures.list; added = c.remember.ensures.added; there = c.remember.ensures.there }) c.args.cycle.now c.requires.there
-    (wanted_old c.args.tables.now c.args.cycle.now c.args.into c.phase_of-phase.result c.is_old-old.result c.phase_of-phase.ensures c.is_old-old.ensures (c.on_store-effect.ensures.remember.0 c.if-effect.true)) c.requires.collects
+    (wanted_old c.args.tables.now c.args.cycle.now c.args.into c.phase_of-phase.result c.is_old_near-old.result c.phase_of-phase.ensures c.is_old_near-old.ensures (c.on_store-effect.ensures.remember.0 c.if-effect.true)) c.requires.collects
 
 pub returns-then-effect-clause-remembers : goal.returns-then-effect-clause-remembers
 returns-then-effect-clause-remembers c = remembers c.args.tables.now c.remember.new.self c.args.into (record { list = c.remember.ensures.list; added = c.remember.ensures.added; there = c.remember.ensures.there })
@@ -30,9 +30,9 @@ pub returns-then-effect-clause-needed : goal.returns-then-effect-clause-needed
 returns-then-effect-clause-needed c =
     inr (subst (StoreWantsCard c.args.tables.now c.args.cycle.now c.args.into) (sym c.in-Some.is) (wants (c.on_store-effect.ensures.remember.0 c.if-effect.true)))
   where
-    newer : IsTrue c.is_old-old.result → IsFalse c.if-old.value_old → IsFalse (is_old_at c.args.tables.now.blocks.blocks c.in-Some.value)
+    newer : IsTrue c.is_old_near-old.result → IsFalse c.if-old.value_old → IsFalse (is_old_at c.args.tables.now.blocks.blocks c.in-Some.value)
     newer old young = elim c.if-old.branch [ then-old w ↦ sym w.is_old-value_old.ensures ∙ (sym w.value_old-is ∙ young) | else-old w ↦ (let at = w.if-old.false in cc (at, old)) ]
 
-    wants : (IsTrue c.is_old-old.result × IsFalse c.if-old.value_old) ⊎ (IsSettling c.phase_of-phase.result × IsTrue c.is_condemned-condemned.result) → StoreWantsCard c.args.tables.now c.args.cycle.now c.args.into (Some c.in-Some.value)
-    wants (inl w) = inl (sym c.is_old-old.ensures ∙ w.0, newer w.0 w.1)
+    wants : (IsTrue c.is_old_near-old.result × IsFalse c.if-old.value_old) ⊎ (IsSettling c.phase_of-phase.result × IsTrue c.is_condemned-condemned.result) → StoreWantsCard c.args.tables.now c.args.cycle.now c.args.into (Some c.in-Some.value)
+    wants (inl w) = inl (sym c.is_old_near-old.ensures ∙ w.0, newer w.0 w.1)
     wants (inr w) = inr (sym c.is_condemned-condemned.ensures ∙ w.1)

@@ -10,7 +10,7 @@ use Rattle.block_table.proofs.Told.{block_none, block_there}
 use Rattle.block_table.proofs.table.BlockTable.set_word.Goals as goal
 
 pub unreachable-requires : goal.unreachable-requires
-unreachable-requires c = subst (λ o. MatchOption o ⊥ (λ (k : HeapBlock). FitsAt k.layout c.args.at c.args.word)) (block_none _ c.self.inside.graph c.self.inside.kept.entries c.self.view_is c.args.id (sym c.in_default.is ∙ c.find.ensures.value)) c.requires
+unreachable-requires c = subst (λ o. MatchOption o ⊥ (λ (k : HeapBlock). FitsAt k.layout c.args.at c.args.word)) (block_none _ c.self.inside.graph c.self.inside.kept.entries c.self.view_is c.args.id (sym c.in_default.is ∙ c.find_near.ensures.value)) c.requires
 
 pub set_word-requires : goal.set_word-requires
 set_word-requires c =
