@@ -207,12 +207,23 @@ pub listed : (es : List (BlockId × Values)) → IsDistinct id_eq (keys_of es) �
 listed es d object n o e =
     sym (ap (λ xs. slice_get xs n) (pairs-listed es d object) ∙ slice_get-map shown_pair (entries (values_at es object)) n ∙ ap (λ l. option_map shown_pair (slice_get (entries (values_in l)) n)) e)
 
-pub none-listed : (n : ℕ) → None ≡ option_map shown_pair (slice_get (entries (values_in None)) n)
-none-listed n = ap (λ xs. option_map shown_pair (slice_get xs n)) (sym no_entries)
-  where
-    nothing : (xs : List (ℕ × BlockId)) → length xs ≡ 0 → xs ≡ []
-    nothing [] h = refl
-    nothing (x ∷ xs) h = absurd (omega arith)
+no_items : {X : Type 0} (xs : List X) → length xs ≡ 0 → xs ≡ []
+no_items [] e = refl
+no_items (x ∷ xs) e = absurd (omega arith)
 
-    no_entries : entries (empty {X = BlockId} {R = nat_cmp}) ≡ []
-    no_entries = nothing _ (sym (len-entries (empty {X = BlockId} {R = nat_cmp})) ∙ len-empty nat_cmp BlockId)
+-- an object whose list is empty
+pub unpaired : (es : List (BlockId × Values)) → IsDistinct id_eq (keys_of es) → (object : BlockId) → len (values_at es object) ≡ 0 → pairs_of (shown_pairs es) object ≡ []
+unpaired es d object none = pairs-listed es d object ∙ ap (map shown_pair) (no_items (entries (values_at es object)) (sym (len-entries (values_at es object)) ∙ none))
+
+pub unlisted : (es : List (BlockId × Values)) → IsDistinct id_eq (keys_of es) → (object : BlockId) → lookup (id_eq object) es ≡ None → pairs_of (shown_pairs es) object ≡ []
+unlisted es d object e = unpaired es d object (ap (λ o. len (values_in o)) e ∙ len-empty nat_cmp BlockId)
+
+-- where there are no values at all
+pub none-paired : (es : List (BlockId × Values)) → IsDistinct id_eq (keys_of es) → (object : BlockId) → len (shown_pairs es) ≡ 0 → pairs_of (shown_pairs es) object ≡ []
+none-paired es d object none = unpaired es d object (nothing _ _ _ (len-without es d object) none)
+  where
+    nothing : (a b c : ℕ) → a + b ≡ c → c ≡ 0 → a ≡ 0
+    nothing a b c e f = omega arith
+
+pub none-listed : (n : ℕ) → None ≡ option_map shown_pair (slice_get (entries (values_in None)) n)
+none-listed n = ap (λ xs. option_map shown_pair (slice_get xs n)) (sym (no_items (entries (empty {X = BlockId} {R = nat_cmp})) (sym (len-entries (empty {X = BlockId} {R = nat_cmp})) ∙ len-empty nat_cmp BlockId)))

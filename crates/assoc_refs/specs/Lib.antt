@@ -1,2 +1,3 @@
+pub mod Filter
 pub mod Values
 pub mod Table

@@ -51,9 +51,10 @@ shown_pairs es = from_entries (all_pairs es)
 abbrev pub HasRoom : {S : Type 0} → HashMap BlockId Values S → Values → BlockId → Type 0
 HasRoom lists blank object = MatchOption (lookup (id_eq object) lists.entries) ((0 < spare lists) × (0 < blank.spare)) (λ v. 0 < v.spare)
 
--- each object has one list, the pairs are counted, and there is room for the one that is ready
-pub record IsTable {S : Type 0} (lists : HashMap BlockId Values S) (empty_list : Values) (count : ℕ) (ready : Option BlockId) : Type 0 where
+-- each object has one list and may have values, the pairs are counted, and there is room for the one that is ready
+pub record IsTable {S : Type 0} (lists : HashMap BlockId Values S) (empty_list : Values) (count : ℕ) (ready : Option BlockId) (MayHave : BlockId → Type 0) : Type 0 where
   pub once : IsDistinct id_eq (keys_of lists.entries)
   pub total : count ≡ len (shown_pairs lists.entries)
   pub blank : empty_list.values ≡ empty
   pub room : (object : BlockId) → ready ≡ Some object → HasRoom lists empty_list object × (count + 1 < 2 ^ 64)
+  pub met : (object : BlockId) (v : Values) → lookup (id_eq object) lists.entries ≡ Some v → MayHave object

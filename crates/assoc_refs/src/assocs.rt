@@ -1,7 +1,8 @@
 //! The values of all objects.
-ghost use Rattle.std.specs.Prelude.{◌≡◌, ◌+◌, ◌-◌, ◌<◌, ◌≤◌, ◌^◌, ℕ, None, Some, is_some, slice_get, IsSome, IfSome, IsOk, IfOk, OnOk, OnErr};
+ghost use Rattle.std.specs.Prelude.{◌≡◌, ◌+◌, ◌-◌, ◌<◌, ◌≤◌, ◌^◌, ℕ, None, Some, false, is_some, [], slice_get, IsSome, IfSome, IsOk, IfOk, OnOk, OnErr};
 ghost use Rattle.std.specs.FinMap as map;
 
+use crate::filter::Filter;
 use crate::pairs::Pairs;
 use az_base::{BlockId, Key, NoMemory};
 use indexmap::IndexMap;
@@ -19,9 +20,12 @@ pub struct Assocs {
     // How many values there are in all.
     total: usize,
     ready: Option<BlockId>,
+    // Whatever has a list is in.
+    filter: Filter,
 }
 
 impl Model for Assocs {
+    ghost use Rattle.assoc_refs.specs.Filter.{IsIn};
     ghost use Rattle.assoc_refs.specs.Table.{Associated, coded_associated, shown_pairs, IsTable};
 
     ghost Value = { Associated };
@@ -30,7 +34,7 @@ impl Model for Assocs {
 
     ghost view = { λ a. record { pairs = shown_pairs a.lists.entries; ready = a.ready } };
 
-    ghost invariant = { λ a. IsTable a.lists a.blank a.total a.ready };
+    ghost invariant = { λ a. IsTable a.lists a.blank a.total a.ready (IsIn a.filter.taken.items a.filter.mask) };
 }
 
 impl Assocs {
@@ -47,6 +51,7 @@ impl Assocs {
             blank: Pairs::new(alloc),
             total: 0,
             ready: None,
+            filter: Filter::new(alloc),
         }
     }
 
@@ -55,6 +60,16 @@ impl Assocs {
         ensures { result ≡ map.len self.now.pairs }
     {
         self.total
+    }
+
+    /// Whether the object may have values: false says that it has none, and true nothing. It is false for each object where
+    /// there is no value, and where n objects have values, for three in four of the others at least, as long as their ids
+    /// are spread and there was memory. O(1), without a look-up.
+    pub fn may_have(&self, object: BlockId) -> bool
+        ensures none { result ≡ false → pairs_of self.now.pairs object ≡ [] }
+        ensures empty { map.len self.now.pairs ≡ 0 → result ≡ false }
+    {
+        self.total > 0 && self.filter.has(object)
     }
 
     /// The value of the object under the key; None exactly where there is none. O(log values of the object).
@@ -157,6 +172,7 @@ impl Assocs {
             self.lists.reserve(1)?;
             let _ = self.blank.set(key, value)?;
             let list = mem::replace(&mut self.blank, Pairs::new(*self.lists.allocator()));
+            self.filter.admit(&self.lists, object);
             let Ok(_) = self.lists.insert(object, list) else {
                 unreachable!()
             };

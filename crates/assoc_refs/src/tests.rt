@@ -70,3 +70,41 @@ fn walks_in_ascending_keys(rt: HostRuntime) -> Result<(), Fail> {
     assert!(rt; walks(&mut assocs, block(7), block(8)));
     Ok(())
 }
+
+fn has_one(assocs: &mut Assocs, object: BlockId) -> bool {
+    assocs.set(object, Key(0), Some(object)) == Ok(None) && assocs.may_have(object)
+}
+
+/// How many of the blocks with these serials may have values.
+fn how_many(assocs: &Assocs, from: u32, to: u32) -> u32 {
+    let mut count = 0_u32;
+    for serial in from..to {
+        if assocs.may_have(block(serial)) {
+            count = count.wrapping_add(1);
+        }
+    }
+    count
+}
+
+fn tells_apart(assocs: &mut Assocs) -> bool {
+    for serial in 0..1_000_u32 {
+        if !has_one(assocs, block(serial)) {
+            return false;
+        }
+    }
+    how_many(assocs, 0, 1_000) == 1_000 && how_many(assocs, 1_000, 11_000) <= 2_500
+}
+
+fn is_empty_again(assocs: &mut Assocs) -> bool {
+    for serial in 0..1_000_u32 {
+        assocs.erase(block(serial));
+    }
+    how_many(assocs, 0, 11_000) == 0
+}
+
+#[test]
+fn tells_most_objects_without_values(rt: HostRuntime) -> Result<(), Fail> {
+    let mut assocs = Assocs::new(rt.alloc());
+    assert!(rt; tells_apart(&mut assocs) && is_empty_again(&mut assocs));
+    Ok(())
+}

@@ -4,5 +4,4 @@ pub mod Places
 pub mod Fronts
 pub mod Showing
 pub mod Changing
-pub mod Walking
 pub mod Finishing

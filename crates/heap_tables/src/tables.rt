@@ -115,7 +115,7 @@ impl Tables {
         requires { somes (drop place (map in_word (words_in self.now.blocks.blocks id))) ≡ [] }
         ensures { NextOf (edge_places self.now id) place result }
     {
-        if self.assocs.len() == 0 {
+        if !self.assocs.may_have(id) {
             return None;
         }
         let words = u64::from(self.blocks.words(id, hint));
@@ -139,7 +139,7 @@ impl Tables {
 }
 
 /// Visits the values of a block's associations, in the order of their keys, and puts those that turn grey onto the stack,
-/// where it has room for them. O(values) expected.
+/// where it has room for them. O(values) expected, and without a look-up where a block can't have any.
 pub(crate) fn visit_values(
     blocks: &mut BlockTable,
     assocs: &Assocs,
@@ -150,7 +150,7 @@ pub(crate) fn visit_values(
     ensures visits { VisitsAll mode (graph_in blocks.old) (somes (map value_of (pairs_of assocs.now.pairs id))) (marks_in blocks.old) stack.old (marks_in blocks.new) stack.new }
     ensures rest { blocks.new ≡ record blocks.old { shades = blocks.new.shades } }
 {
-    if assocs.len() == 0 {
+    if !assocs.may_have(id) {
         return;
     }
     let mut n = 0;

@@ -8,11 +8,10 @@ use Rattle.block_table.specs.Table.{Table}
 use Rattle.block_table.proofs.Somes.{mapped_at, mapped_past, none_past, within_list}
 use Rattle.block_table.proofs.Visits.{onto_alike}
 use Rattle.heap_tables.specs.Graphs.{value_of}
-use Rattle.heap_tables.proofs.Walking.{no_values}
 use Rattle.heap_tables.proofs.tables.visit_values.Goals as goal
 
-pub returns-then-len-eq0-clause-visits : goal.returns-then-len-eq0-clause-visits
-returns-then-len-eq0-clause-visits c = rw (no_values c.args.assocs.now.pairs c.args.id (sym c.len.ensures ∙ c.if-len-eq0.true)) (refl, refl)
+pub returns-then-not-may_have-clause-visits : goal.returns-then-not-may_have-clause-visits
+returns-then-not-may_have-clause-visits c = rw (c.may_have.ensures.none c.if-not-may_have.true) (refl, refl)
 
 pub loop-found-smaller : goal.loop-found-smaller
 loop-found-smaller c = let l = within_list (pairs_of c.args.assocs.now.pairs c.args.id) c.loop-found.n _ (sym c.nth_of.ensures.value ∙ c.in-Some.is) in omega (arith, l)

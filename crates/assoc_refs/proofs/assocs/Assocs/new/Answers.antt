@@ -11,4 +11,5 @@ invariant_of-result c = record {
   total = sym (ap len (no-pairs c.new.result.entries c.new.ensures.empty) ∙ len-empty pair_cmp BlockId);
   blank = c.new-2.ensures;
   room = λ object e. cc;
+  met = λ object v e. c.new-3.ensures object;
 }

@@ -3,8 +3,10 @@ use Rattle.std.proofs.lemmas.Result.{err_from_is_err_and}
 use Rattle.std.specs.FinMap.{get, insert}
 use Rattle.std.specs.Map.{lookup}
 use Rattle.az_base.specs.Ids.{id_eq}
+use Rattle.assoc_refs.specs.Filter.{HasAll}
 use Rattle.assoc_refs.specs.Table.{Associated}
-use Rattle.assoc_refs.proofs.Keeping.{Relists, room-absent, room-present, room-counted, value-there, absent-none, wider-shown, wider-table, changed-shown, first-shown, grown-table, kept-table, none_of, none_value, some_value}
+use Rattle.assoc_refs.proofs.MayHave.{joins, all-in}
+use Rattle.assoc_refs.proofs.Keeping.{Relists, stays-met, room-absent, room-present, room-counted, value-there, absent-none, wider-shown, wider-table, changed-shown, first-shown, grown-table, kept-table, none_of, none_value, some_value}
 use Rattle.assoc_refs.proofs.assocs.Assocs.put.Goals as goal
 
 pub returns-then-self-clause-succeeds : goal.returns-then-self-clause-succeeds
@@ -41,6 +43,7 @@ invariant_of-self-then-not-contains_key c =
     let none : lookup (id_eq c.args.object) c.self.inside.lists.entries ≡ None = none_of _ (sym c.contains_key.ensures ∙ c.if-not-contains_key.true) in
     grown-table c.self.inside.lists c.self.inside.blank c.self.inside.total c.self.inside.ready c.self.invariant c.args.object c.insert.new.self c.insert.ensures.unique
     c.args.key.0 c.args.value c.replace-list.new.dest
+    (joins _ _ c.reserve.new.self.entries c.insert.new.self.entries c.args.object (Some c.replace-list.result) c.admit.ensures.all c.admit.ensures.object c.in-Ok.ensures.updates.0)
     (absent-none c.self.inside.lists c.self.inside.blank c.self.inside.total c.self.inside.ready c.self.invariant c.args.object c.args.key.0 none)
     (first-shown c.self.inside.lists c.self.inside.blank c.self.inside.total c.self.inside.ready c.self.invariant c.args.object c.insert.new.self c.insert.ensures.unique
     c.replace-list.result c.args.key.0 c.args.value none
@@ -104,6 +107,8 @@ invariant_of-self-then-is_some c =
     let written = c.get_mut.follows.holds c.set-2.new.self in
     let before = some_value _ (sym (c.is_some.ensures) ∙ c.if-is_some.true) in
     kept-table c.self.inside.lists c.self.inside.blank c.self.inside.total c.self.inside.ready c.self.invariant c.args.object (c.get_mut.follows.lender c.set-2.new.self) written.4 c.args.key.0 c.args.value before.0
+    (stays-met c.self.inside.lists c.self.inside.blank c.self.inside.total c.self.inside.ready c.self.invariant c.args.object (c.get_mut.follows.lender c.set-2.new.self) written.4 (Some c.set-2.new.self) (written.3 (ap is_some there)).0
+    (λ _ _. c.self.invariant.met c.args.object c.in-Some.list.now there))
     (value-there c.self.inside.lists c.self.inside.blank c.self.inside.total c.self.inside.ready c.self.invariant c.args.object c.args.key.0 (Some c.in-Some.list.now) there ∙ sym c.in_ok-before.ensures.before ∙ before.1)
     (changed-shown c.self.inside.lists c.self.inside.blank c.self.inside.total c.self.inside.ready c.self.invariant c.args.object (c.get_mut.follows.lender c.set-2.new.self) written.4 c.in-Some.list.now c.set-2.new.self c.args.key.0 (Some c.args.value) there
     (written.3 (ap is_some there)).0 c.in_ok-before.ensures.ok)
@@ -113,8 +118,15 @@ invariant_of-self-2 c =
     let there = sym c.in-Some.ensures.value in
     let written = c.get_mut.follows.holds c.set-2.new.self in
     grown-table c.self.inside.lists c.self.inside.blank c.self.inside.total c.self.inside.ready c.self.invariant c.args.object (c.get_mut.follows.lender c.set-2.new.self) written.4 c.args.key.0 c.args.value c.self.inside.blank
+    (stays-met c.self.inside.lists c.self.inside.blank c.self.inside.total c.self.inside.ready c.self.invariant c.args.object (c.get_mut.follows.lender c.set-2.new.self) written.4 (Some c.set-2.new.self) (written.3 (ap is_some there)).0
+    (λ _ _. c.self.invariant.met c.args.object c.in-Some.list.now there))
     (value-there c.self.inside.lists c.self.inside.blank c.self.inside.total c.self.inside.ready c.self.invariant c.args.object c.args.key.0 (Some c.in-Some.list.now) there ∙ sym c.in_ok-before.ensures.before
     ∙ none_value _ (sym (c.is_some.ensures) ∙ c.if-is_some.false))
     (changed-shown c.self.inside.lists c.self.inside.blank c.self.inside.total c.self.inside.ready c.self.invariant c.args.object (c.get_mut.follows.lender c.set-2.new.self) written.4 c.in-Some.list.now c.set-2.new.self c.args.key.0 (Some c.args.value) there
     (written.3 (ap is_some there)).0 c.in_ok-before.ensures.ok)
     c.self.invariant.blank
+
+pub admit-requires : goal.admit-requires
+admit-requires c =
+    subst (HasAll c.self.inside.filter.taken.items c.self.inside.filter.mask) (sym c.reserve.ensures.entries)
+    (all-in c.self.inside.filter.taken.items c.self.inside.filter.mask c.self.inside.lists.entries c.self.invariant.once c.self.invariant.met)

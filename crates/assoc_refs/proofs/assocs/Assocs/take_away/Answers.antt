@@ -1,7 +1,7 @@
-use Rattle.std.proofs.Common.{ap, ◌∙◌, sym, None, is_some}
+use Rattle.std.proofs.Common.{ap, ◌∙◌, sym, Some, None, is_some}
 use Rattle.std.specs.FinMap.{remove}
 use Rattle.assoc_refs.specs.Table.{Associated, shown_pairs}
-use Rattle.assoc_refs.proofs.Keeping.{changed-shown, taken-table, some-counted, never-none, stays-away}
+use Rattle.assoc_refs.proofs.Keeping.{stays-met, changed-shown, taken-table, some-counted, never-none, stays-away}
 use Rattle.assoc_refs.proofs.assocs.Assocs.take_away.Goals as goal
 
 pub returns-in_default-clause-pairs : goal.returns-in_default-clause-pairs
@@ -20,7 +20,10 @@ pub invariant_of-self-2 : goal.invariant_of-self-2
 invariant_of-self-2 c =
     let there = sym c.in-Some-get_mut.ensures.value in
     let written = c.get_mut.follows.holds c.remove.new.self in
-    taken-table c.self.inside.lists c.self.inside.blank c.self.inside.total _ c.self.invariant c.args.object (c.get_mut.follows.lender c.remove.new.self) written.4 c.args.key.0 c.in-Some.before (sym c.get.ensures ∙ c.in-Some.is)
+    taken-table c.self.inside.lists c.self.inside.blank c.self.inside.total _ c.self.invariant c.args.object (c.get_mut.follows.lender c.remove.new.self) written.4 c.args.key.0 c.in-Some.before
+    (stays-met c.self.inside.lists c.self.inside.blank c.self.inside.total _ c.self.invariant c.args.object (c.get_mut.follows.lender c.remove.new.self) written.4 (Some c.remove.new.self) (written.3 (ap is_some there)).0
+    (λ _ _. c.self.invariant.met c.args.object c.in-Some-get_mut.list.now there))
+    (sym c.get.ensures ∙ c.in-Some.is)
     (changed-shown c.self.inside.lists c.self.inside.blank c.self.inside.total _ c.self.invariant c.args.object (c.get_mut.follows.lender c.remove.new.self) written.4
     c.in-Some-get_mut.list.now c.remove.new.self c.args.key.0 None there (written.3 (ap is_some there)).0 c.remove.ensures.values)
 

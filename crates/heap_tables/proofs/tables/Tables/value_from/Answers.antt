@@ -4,7 +4,6 @@ use Rattle.block_table.specs.Places.{in_word}
 use Rattle.block_table.specs.Table.{words_in}
 use Rattle.heap_tables.specs.Graphs.{value_of}
 use Rattle.block_table.proofs.Somes.{second_of_two, none_of_two, mapped_at, mapped_past, length_mapped, within_list, none_past, none_in_nothing}
-use Rattle.heap_tables.proofs.Walking.{no_values}
 use Rattle.heap_tables.proofs.tables.Tables.value_from.Goals as goal
 
 pub returns-in-Some : goal.returns-in-Some
@@ -32,10 +31,10 @@ returns-in-None c =
     none_of_two (map in_word words) (map value_of pairs) c.args.place n
     c.requires (omega (arith, long, all, c.saturating_sub-n.ensures)) (mapped_past value_of pairs n (none_past pairs n (sym c.nth_of.ensures.value ∙ c.in-None.is)))
 
-pub returns-then-len-eq0 : goal.returns-then-len-eq0
-returns-then-len-eq0 c =
+pub returns-then-not-may_have : goal.returns-then-not-may_have
+returns-then-not-may_have c =
     let t = c.args.self.now in
     let words = words_in t.blocks.blocks c.args.id in
-    let nothing = no_values t.assocs.pairs c.args.id (sym c.len.ensures ∙ c.if-len-eq0.true) in
+    let nothing = c.may_have.ensures.none c.if-not-may_have.true in
     none_of_two (map in_word words) (map value_of (pairs_of t.assocs.pairs c.args.id)) c.args.place (c.args.place - length (map in_word words))
     c.requires refl (rw nothing (none_in_nothing (c.args.place - length (map in_word words))))
