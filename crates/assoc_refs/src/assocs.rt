@@ -62,9 +62,9 @@ impl Assocs {
         self.total
     }
 
-    /// Whether the object may have values: false says that it has none, and true nothing. It is false for each object where
-    /// there is no value, and where n objects have values, for three in four of the others at least, as long as their ids
-    /// are spread and there was memory. O(1), without a look-up.
+    /// Whether the object may have values: false says that it has none, and true says nothing. It is false for every object
+    /// where there are no values at all. Otherwise it is false for about three in four objects without values, or more, but
+    /// for fewer where there was no memory for enough slots. O(1), without a look-up.
     pub fn may_have(&self, object: BlockId) -> bool
         ensures none { result ≡ false → pairs_of self.now.pairs object ≡ [] }
         ensures empty { map.len self.now.pairs ≡ 0 → result ≡ false }

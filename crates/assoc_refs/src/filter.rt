@@ -10,8 +10,8 @@ use std::alloc::Global;
 // How many slots the first filter has.
 const FIRST_SLOTS: usize = 64;
 
-/// Slots that objects share, of which an object that came in has taken its own. What has no slot taken isn't in; of the
-/// others one in four at most is taken for another object alone, where there was memory for the slots.
+/// Slots that objects share: an object that comes in takes its own, and one whose slot isn't taken isn't in. At most one
+/// slot in four is taken, where there was memory for enough of them.
 #[derive(Drop)]
 pub struct Filter {
     pub taken: Vec<bool>,
