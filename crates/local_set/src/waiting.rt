@@ -1,5 +1,6 @@
 //! The waiting entries.
 ghost use Rattle.std.specs.Prelude.{◌≡◌, ◌≤◌, ◌<◌, ◌+◌, [], ◌∷◌, ◌++◌, length, map, OnOk, OnErr, MatchOption};
+ghost use Rattle.std.specs.Vec.{vec_capacity};
 ghost use Rattle.zone_model.specs.Bare.{bare_entry};
 
 use az_base::{NoMemory, ThreadNo};
@@ -87,6 +88,30 @@ impl Waiting {
             self.restart();
         }
         Some(entry)
+    }
+
+    /// Takes all entries out, with the room in which they lie. O(1), and O(entries) where some were taken out before.
+    pub fn take(&mut self) -> Vec<Entry>
+        ensures list { map bare_entry result.items ≡ self.old.list }
+        ensures room { length self.old.list + self.old.spare ≤ vec_capacity result }
+        ensures none { self.new.list ≡ [] }
+    {
+        if self.first > 0 {
+            self.entries.drain(..self.first);
+            self.first = 0;
+        }
+        let alloc = *self.entries.allocator();
+        mem::replace(&mut self.entries, Vec::new(alloc))
+    }
+
+    /// Where nothing waits, later entries lie in this room.
+    pub fn reuse(&mut self, room: Vec<Entry>)
+        requires nothing { self.old.list ≡ [] }
+        requires empty { room.items ≡ [] }
+        ensures { self.new ≡ record self.old { spare = vec_capacity room } }
+    {
+        self.entries = room;
+        self.first = 0;
     }
 
     /// The oldest entry, which is there, is taken out.

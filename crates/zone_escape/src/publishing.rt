@@ -15,13 +15,13 @@ use zone_history::Journal;
 fn push_waiting(local: &mut Local, journal: &mut Journal)
     requires { journal.old.owed + length local.old.waiting ≤ journal.old.spare }
     ensures entries { journal.new.entries ≡ journal.old.entries ++ local.old.waiting }
-    ensures room { journal.new.spare + length local.old.waiting ≡ journal.old.spare }
+    ensures room { journal.old.spare ≤ journal.new.spare + length local.old.waiting }
     ensures owed { journal.new.owed ≡ journal.old.owed }
     ensures local { local.new ≡ record local.old { waiting = []; spare = local.new.spare } }
 {
-    while let Some(entry) = local.pop_pending() {
-        journal.push_reserved(entry);
-    }
+    let mut waiting = local.take_pending();
+    journal.append(&mut waiting);
+    local.reuse_room(waiting);
 }
 
 /// Room for the waiting entries, and for `more`.

@@ -1,5 +1,6 @@
 //! The journal: the entries of a zone, and room for more.
 ghost use Rattle.std.specs.Prelude.{◌≡◌, ◌≤◌, ◌<◌, ◌+◌, [], ◌∷◌, ◌++◌, map, OnOk, OnErr};
+ghost use Rattle.std.specs.Vec.{vec_capacity, vec_len};
 ghost use Rattle.zone_model.specs.Bare.{bare_entry};
 
 use az_base::NoMemory;
@@ -75,6 +76,21 @@ impl Journal {
         ensures owed { self.new.owed ≡ self.old.owed }
     {
         self.entries.push_reserved(entry);
+    }
+
+    /// All of these entries go behind the others, in their order, and take no room that is owed; the vector keeps its own
+    /// room. O(their number), without memory.
+    pub fn append(&mut self, more: &mut Vec<Entry>)
+        requires { self.old.owed + vec_len more.old ≤ self.old.spare }
+        ensures entries { self.new.entries ≡ self.old.entries ++ map bare_entry more.old.items }
+        ensures room { self.old.spare ≤ self.new.spare + vec_len more.old }
+        ensures owed { self.new.owed ≡ self.old.owed }
+        ensures empty { more.new.items ≡ [] }
+        ensures kept { vec_capacity more.new ≡ vec_capacity more.old }
+    {
+        let Ok(()) = self.entries.append(more) else {
+            unreachable!()
+        };
     }
 
     /// One more entry, in room that was owed to it. O(1), without memory.

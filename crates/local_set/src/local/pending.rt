@@ -1,5 +1,6 @@
 //! The waiting entries of a local set.
-ghost use Rattle.std.specs.Prelude.{◌≡◌, ◌<◌, ◌≤◌, ◌++◌, ◌∷◌, [], length, map, OnOk, OnErr, IfErr, MatchOption};
+ghost use Rattle.std.specs.Prelude.{◌≡◌, ◌<◌, ◌≤◌, ◌+◌, ◌++◌, ◌∷◌, [], length, map, OnOk, OnErr, IfErr, MatchOption};
+ghost use Rattle.std.specs.Vec.{vec_capacity};
 ghost use Rattle.zone_model.specs.Bare.{bare_entry};
 ghost use Rattle.local_set.specs.Calls.{Same, WhyNotReady, entry_of};
 
@@ -62,5 +63,24 @@ impl Local {
         ensures room { self.old.spare ≤ self.new.spare }
     {
         self.waiting.pop()
+    }
+
+    /// Takes all waiting entries out, with the room in which they lie, so that they can be published; `reuse_room` gives the
+    /// room back. O(1), and O(entries) where some were taken out by `pop_pending`.
+    pub fn take_pending(&mut self) -> Vec<Entry>
+        ensures entries { map bare_entry result.items ≡ self.old.waiting }
+        ensures room { length self.old.waiting + self.old.spare ≤ vec_capacity result }
+        ensures rest { self.new ≡ record self.old { waiting = []; spare = self.new.spare } }
+    {
+        self.waiting.take()
+    }
+
+    /// Where nothing waits, later entries lie in this room. O(1).
+    pub fn reuse_room(&mut self, room: Vec<Entry>)
+        requires nothing { self.old.waiting ≡ [] }
+        requires empty { room.items ≡ [] }
+        ensures { self.new ≡ record self.old { spare = vec_capacity room } }
+    {
+        self.waiting.reuse(room);
     }
 }
