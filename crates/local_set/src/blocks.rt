@@ -1,5 +1,5 @@
 //! The unescaped blocks of a thread.
-ghost use Rattle.std.specs.Prelude.{◌≡◌, if◌then◌else◌, ◌≤◌, ◌+◌, ◌++◌, ◌∷◌, filter, IfOk, [], List, ℕ, Some, None, true, false, length, slice_get, slice_set, option_and_then, option_map, MatchOption, OnOk, OnErr, not};
+ghost use Rattle.std.specs.Prelude.{◌≡◌, if◌then◌else◌, ◌≤◌, ◌+◌, ◌++◌, ◌∷◌, filter, IfOk, [], List, ℕ, Some, None, true, false, length, slice_get, slice_set, option_and_then, option_map, is_some, MatchOption, OnOk, OnErr, not};
 ghost use Rattle.std.specs.List.{IsDistinct};
 ghost use Rattle.std.specs.Map.{keys_of};
 ghost use Rattle.std.specs.FinMap.{get, insert, contains_key, retain_keys};
@@ -97,15 +97,20 @@ impl Blocks {
         self.stored.contains_key(&id)
     }
 
-    /// The least of NoWord and WrongClass where a word of this class of the block is needed.
-    pub fn misuse(&self, id: BlockId, at: u32, class: Class) -> Option<Misuse>
+    /// A hint where the block lies, for the calls that take one; None exactly where it isn't there. O(1) expected.
+    pub fn hint(&self, id: BlockId) -> Option<usize>
+        ensures { is_some result ≡ contains_key (blocks_of self.now.list) id }
+    {
+        self.stored.get_index_of(&id)
+    }
+
+    /// The least of NoWord and WrongClass where a word of this class of the block is needed. The block isn't looked up
+    /// where the hint is right.
+    pub fn misuse(&self, id: BlockId, at: u32, class: Class, hint: usize) -> Option<Misuse>
         requires { contains_key (blocks_of self.now.list) id ≡ true }
         ensures { result ≡ word_misuse false (get (blocks_of self.now.list) id) at class }
     {
-        let Some(block) = self.stored.get(&id) else {
-            unreachable!()
-        };
-        block.misuse(at, class)
+        block_near(&self.stored, id, hint).misuse(at, class)
     }
 
     pub fn layout(&self, id: BlockId) -> &Layout
@@ -123,23 +128,23 @@ impl Blocks {
         requires { IsAt self.now.list id at }
         ensures { option_and_then (λ b. slice_get b.words at) (get (blocks_of self.now.list) id) ≡ Some result }
     {
-        read(&self.stored, id, at)
+        read(&self.stored, id, at, 0)
     }
 
-    /// The reference in a Strong word of a block.
-    pub fn reference(&self, id: BlockId, at: u32) -> Option<BlockId>
+    /// The reference in a Strong word of a block, which isn't looked up where the hint is right.
+    pub fn reference(&self, id: BlockId, at: u32, hint: usize) -> Option<BlockId>
         requires { MayHold self.now.list id at word.Null }
         ensures { result ≡ referent_of (option_and_then (λ b. slice_get b.words at) (get (blocks_of self.now.list) id)) }
     {
-        referent(read(&self.stored, id, at))
+        referent(read(&self.stored, id, at, hint))
     }
 
-    /// The number in a Plain word of a block.
-    pub fn number(&self, id: BlockId, at: u32) -> u64
+    /// The number in a Plain word of a block, which isn't looked up where the hint is right.
+    pub fn number(&self, id: BlockId, at: u32, hint: usize) -> u64
         requires { MayHold self.now.list id at (word.Number 0) }
         ensures { option_and_then (λ b. slice_get b.words at) (get (blocks_of self.now.list) id) ≡ Some (word.Number result) }
     {
-        number_in(read(&self.stored, id, at))
+        number_in(read(&self.stored, id, at, hint))
     }
 
     /// The words of a block.
@@ -176,8 +181,14 @@ impl Blocks {
         let _ = write(&mut self.stored, id, at, Word::Number(number));
     }
 
-    /// A Strong word gets a reference. O(1) expected.
-    pub fn store(&mut self, id: BlockId, at: u32, value: Option<BlockId>) -> Result<(), NoMemory>
+    /// A Strong word gets a reference. O(1) expected; the hint saves one of two look-ups where it is right.
+    pub fn store(
+        &mut self,
+        id: BlockId,
+        at: u32,
+        value: Option<BlockId>,
+        hint: usize,
+    ) -> Result<(), NoMemory>
         requires { MayHold self.old.list id at (reference_to value) }
         ensures blocks { OnOk result (blocks_of self.new.list ≡ with_edit (blocks_of self.old.list) id (λ b. record b { words = slice_set b.words at (reference_to value) })) }
         ensures notes { OnOk result (NotesChange self.old self.new) }
@@ -185,7 +196,7 @@ impl Blocks {
     {
         let value = &value;
         let id = &id;
-        let old = referent(read(&self.stored, *id, at));
+        let old = referent(read(&self.stored, *id, at, hint));
         self.references.replace(old, *value)?;
         let _ = write(&mut self.stored, *id, at, reference(*value));
         Ok(())
@@ -364,16 +375,31 @@ fn push_but(ids: &mut Vec<BlockId>, id: BlockId, found: &IndexSet<BlockId>) -> R
     Ok(())
 }
 
-/// The word at a place of a block.
-fn read(stored: &IndexMap<BlockId, OwnBlock>, id: BlockId, at: u32) -> Word
+/// A block, which isn't looked up where the hint is right.
+#[inline(always)]
+fn block_near(stored: &IndexMap<BlockId, OwnBlock>, id: BlockId, hint: usize) -> &OwnBlock
+    requires { contains_key (blocks_of stored.now.entries) id ≡ true }
+    ensures { get (blocks_of stored.now.entries) id ≡ Some result.now }
+{
+    if let Some((key, block)) = stored.get_index(hint) {
+        if *key == id {
+            return block;
+        }
+    }
+    let Some(block) = stored.get(&id) else {
+        unreachable!()
+    };
+    block
+}
+
+/// The word at a place of a block, which isn't looked up where the hint is right.
+#[inline(always)]
+fn read(stored: &IndexMap<BlockId, OwnBlock>, id: BlockId, at: u32, hint: usize) -> Word
     requires { IsAt stored.now.entries id at }
     ensures word { option_and_then (λ b. slice_get b.words at) (get (blocks_of stored.now.entries) id) ≡ Some result }
     ensures fit { MayHold stored.now.entries id at result }
 {
-    let Some(block) = stored.get(&id) else {
-        unreachable!()
-    };
-    block.words()[at as usize]
+    block_near(stored, id, hint).words()[at as usize]
 }
 
 /// Another word at a place of a block; the answer is the word that stood there.

@@ -1,5 +1,5 @@
 //! The calls on words of unescaped blocks.
-ghost use Rattle.std.specs.Prelude.{◌≡◌, ◌<◌, ◌++◌, ◌∷◌, [], length, true, false, Some, is_none, OnOk, OnErr, option_and_then, slice_get};
+ghost use Rattle.std.specs.Prelude.{◌≡◌, ◌<◌, ◌++◌, ◌∷◌, [], length, true, false, Some, is_none, is_some, OnOk, OnErr, option_and_then, slice_get};
 ghost use Rattle.std.specs.FinMap.{get};
 ghost use Rattle.az_base.specs.declared.word.Word.TheVariants as word;
 ghost use Rattle.zone_model.specs.declared.call.Call.TheVariants as call;
@@ -16,14 +16,32 @@ use az_base::{BlockId, Class, Misuse, NoMemory, Reg};
 use zone_model::{Call, Reply};
 
 impl Local {
+    /// A hint where the block lies, for the functions that take one; None exactly where it is neither null nor an unescaped
+    /// block of the thread.
+    fn hint_within(&self, id: Option<BlockId>) -> Option<usize>
+        ensures { is_some result ≡ within (part_in self.now) id }
+    {
+        match id {
+            None => Some(0),
+            Some(id) => self.blocks.hint(id),
+        }
+    }
+
     /// The least of NullBlock, NoWord and WrongClass, where a word of this class of an unescaped block is needed.
-    fn misuse_of_word(&self, id: Option<BlockId>, at: u32, class: Class) -> Option<Misuse>
+    #[inline(always)]
+    fn misuse_of_word(
+        &self,
+        id: Option<BlockId>,
+        at: u32,
+        class: Class,
+        hint: usize,
+    ) -> Option<Misuse>
         requires { within (part_in self.now) id ≡ true }
         ensures { result ≡ misuse_at (is_none id) (block_at self.now id) at class }
     {
         match id {
             None => Some(Misuse::NullBlock),
-            Some(id) => self.blocks.misuse(id, at, class),
+            Some(id) => self.blocks.misuse(id, at, class, hint),
         }
     }
 
@@ -44,6 +62,7 @@ impl Local {
         id: BlockId,
         at: u32,
         value: Option<BlockId>,
+        hint: usize,
     ) -> Result<(), NoMemory>
         requires { MayHold self.old.blocks id at (reference_to value) }
         ensures part { OnOk result (part_in self.new ≡ put_word (part_in self.old) (Some id) at (reference_to value)) }
@@ -51,7 +70,7 @@ impl Local {
         ensures rest { self.new ≡ record self.old { blocks = self.new.blocks; changed = self.new.changed } }
         ensures err { OnErr result (self.new ≡ self.old) }
     {
-        self.blocks.store(id, at, value)?;
+        self.blocks.store(id, at, value, hint)?;
         Ok(())
     }
 
@@ -72,15 +91,15 @@ impl Local {
         ensures sure { NeedsRoom self.old result }
     {
         let holder = &self.register(from);
-        if !self.is_within(*holder) {
+        let Some(hint) = self.hint_within(*holder) else {
             return Err(LocalErr::NotLocal);
-        }
+        };
         self.ready()?;
-        if let Some(misuse) = self.misuse_of_word(*holder, at, Class::Strong) {
+        if let Some(misuse) = self.misuse_of_word(*holder, at, Class::Strong, hint) {
             return Ok(self.misused(Call::Load { to, from, at }, misuse));
         }
         let Some(id) = *holder else { unreachable!() };
-        let value = &self.blocks.reference(id, at);
+        let value = &self.blocks.reference(id, at, hint);
         self.hold(to, *value);
         self.wait(Call::Load { to, from, at }, Reply::Block(*value));
         Ok(Reply::Block(*value))
@@ -92,15 +111,15 @@ impl Local {
         ensures { Answers self.old self.new (call.Store into at from) result }
     {
         let holder = &self.register(into);
-        if !self.is_within(*holder) {
+        let Some(hint) = self.hint_within(*holder) else {
             return Err(LocalErr::NotLocal);
-        }
+        };
         self.ready()?;
-        if let Some(misuse) = self.misuse_of_word(*holder, at, Class::Strong) {
+        if let Some(misuse) = self.misuse_of_word(*holder, at, Class::Strong, hint) {
             return Ok(self.misused(Call::Store { into, at, from }, misuse));
         }
         let Some(id) = *holder else { unreachable!() };
-        self.set_reference(id, at, self.register(from))?;
+        self.set_reference(id, at, self.register(from), hint)?;
         self.wait(Call::Store { into, at, from }, Reply::Done);
         Ok(Reply::Done)
     }
@@ -112,11 +131,11 @@ impl Local {
         ensures sure { NeedsRoom self.old result }
     {
         let holder = &self.register(into);
-        if !self.is_within(*holder) {
+        let Some(hint) = self.hint_within(*holder) else {
             return Err(LocalErr::NotLocal);
-        }
+        };
         self.ready()?;
-        if let Some(misuse) = self.misuse_of_word(*holder, at, Class::Plain) {
+        if let Some(misuse) = self.misuse_of_word(*holder, at, Class::Plain, hint) {
             return Ok(self.misused(Call::Put { into, at, number }, misuse));
         }
         let Some(id) = *holder else { unreachable!() };
@@ -132,15 +151,15 @@ impl Local {
         ensures sure { NeedsRoom self.old result }
     {
         let holder = &self.register(from);
-        if !self.is_within(*holder) {
+        let Some(hint) = self.hint_within(*holder) else {
             return Err(LocalErr::NotLocal);
-        }
+        };
         self.ready()?;
-        if let Some(misuse) = self.misuse_of_word(*holder, at, Class::Plain) {
+        if let Some(misuse) = self.misuse_of_word(*holder, at, Class::Plain, hint) {
             return Ok(self.misused(Call::Get { from, at }, misuse));
         }
         let Some(id) = *holder else { unreachable!() };
-        let number = self.blocks.number(id, at);
+        let number = self.blocks.number(id, at, hint);
         self.wait(Call::Get { from, at }, Reply::Number(number));
         Ok(Reply::Number(number))
     }
