@@ -140,6 +140,7 @@ impl BlockTable {
     }
 
     /// The class of a word of a block, where both are there. The block isn't looked up where the hint is right.
+    #[inline(always)]
     pub fn class_at(&self, id: BlockId, at: u32, hint: u32) -> Option<Class>
         ensures { result ≡ option_and_then (λ k. class_at k.layout at) (get self.now.blocks id) }
     {
@@ -182,6 +183,7 @@ impl BlockTable {
     }
 
     /// Another word of a block. It isn't looked up where the hint is right.
+    #[inline(always)]
     pub fn set_word(&mut self, id: BlockId, at: u32, word: Word, hint: u32)
         requires { MatchOption (get self.old.blocks id) ⊥ (λ k. FitsAt k.layout at word) }
         ensures { self.new ≡ record self.old { blocks = with_edit self.old.blocks id (λ k. record k { words = slice_set k.words at word }) } }

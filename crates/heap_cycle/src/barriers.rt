@@ -69,6 +69,7 @@ fn enliven_word(tables: &mut Tables, cycle: &mut Option<OpenCycle>, word: Word)
 
 /// A block is about to refer to the value: it is remembered where it is old and the value isn't, or where the value is
 /// condemned. The block isn't looked up where the hint is right. O(log condemned), and O(cards) where it is remembered.
+#[inline(always)]
 pub fn remember(
     tables: &mut Tables,
     cycle: &Option<OpenCycle>,

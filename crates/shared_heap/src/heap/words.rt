@@ -64,6 +64,7 @@ impl Heap {
     }
 
     /// The block whose word of this class stands at the place, or what is wrong.
+    #[inline(always)]
     fn find_word(
         &self,
         id: Option<BlockId>,
