@@ -6,7 +6,7 @@ ghost use Rattle.history_text.specs.Words.{entry_words, end_words};
 ghost use Rattle.history_text.specs.Ranges.{IsEntry, AreStats};
 ghost use Rattle.history_text.specs.Lines.{HasNumbers, setting_words, line_text};
 
-use crate::replies::{push_reply, push_stats};
+use crate::replies::{push_answer, push_stats};
 use call_words::{OptionName, push_call, push_named, push_option, push_thread, push_word};
 use std::alloc::AllocError;
 use zone_model::{Entry, Stats};
@@ -44,8 +44,7 @@ pub fn push_entry(out: &mut String, entry: &Entry) -> Result<(), AllocError>
 {
     push_thread(out, entry.thread)?;
     push_call(out, &entry.call)?;
-    out.push_str(" =")?;
-    push_reply(out, &entry.reply)
+    push_answer(out, &entry.reply)
 }
 
 /// Adds the last line, without its line feed.

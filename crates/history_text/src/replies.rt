@@ -1,5 +1,5 @@
 //! Replies as words.
-ghost use Rattle.std.specs.Prelude.{◌≡◌, All, OnOk, map, string_bytes};
+ghost use Rattle.std.specs.Prelude.{◌≡◌, ◌∷◌, All, OnOk, codes, map, string_bytes};
 ghost use Rattle.az_base.specs.Texts.{id_text, misuse_name};
 ghost use Rattle.call_words.specs.Spacing.{Adds, spread};
 ghost use Rattle.call_words.specs.Ranges.{IsId};
@@ -63,7 +63,7 @@ fn misuse_word(misuse: Misuse) -> &'static str
 
 /// Adds a reply, each word behind a space.
 #[tactic(auto, unfolding(crate::specs::Words::reply_words))]
-pub fn push_reply(out: &mut String, reply: &Reply) -> Result<(), AllocError>
+fn push_reply(out: &mut String, reply: &Reply) -> Result<(), AllocError>
     ensures adds { Adds (string_bytes out.old) (string_bytes out.new) result (spread (reply_words reply.now)) }
     ensures range { OnOk result (IsReply reply.now) }
 {
@@ -97,6 +97,21 @@ pub fn push_reply(out: &mut String, reply: &Reply) -> Result<(), AllocError>
             out.push_str(" misuse")?;
             push_number(out, u64::from(misuse.number()))?;
             push_word(out, misuse_word(*misuse))
+        }
+    }
+}
+
+/// Adds the equals sign and a reply, each word behind a space. What most calls answer is added in one piece.
+#[tactic(auto, unfolding(crate::specs::Words::reply_words))]
+pub fn push_answer(out: &mut String, reply: &Reply) -> Result<(), AllocError>
+    ensures adds { Adds (string_bytes out.old) (string_bytes out.new) result (spread (codes "=" ∷ reply_words reply.now)) }
+    ensures range { OnOk result (IsReply reply.now) }
+{
+    match reply {
+        Reply::Done => out.push_str(" = ok"),
+        _ => {
+            out.push_str(" =")?;
+            push_reply(out, reply)
         }
     }
 }
